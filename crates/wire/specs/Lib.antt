@@ -1,0 +1,6 @@
+pub mod Steps
+pub mod Pairs
+pub mod Forms
+pub mod Blocks
+pub mod Classes
+pub mod Table
