@@ -4,3 +4,5 @@ pub mod Forms
 pub mod Blocks
 pub mod Classes
 pub mod Table
+pub mod Codec
+pub mod Rows

@@ -1,13 +1,13 @@
 // One block: its head, its sum and its data field.
 ghost use Rattle.std.specs.Vec.{made};
 ghost use Rattle.wire.specs.Blocks.{malformed-number, framed, sound, read-head, unbalanced, field-end, size, Framed};
-ghost use Rattle.wire.specs.Pairs.{pair, pair-sum};
-ghost use Prim.Native.Nat.{_≤_};
 ghost use mathlib.Core.Path.{_≡_};
 use crate::forms::Form;
+use crate::pairs::sum_pairs;
+use crate::pairs::worth;
 
 /// The most pairs of a block.
-pub const MOST_PAIRS: usize = 2_048;
+pub const MOST_PAIRS: u16 = 2_048;
 
 /// The highest mode.
 pub const MOST_MODE: u8 = 63;
@@ -42,15 +42,25 @@ impl Malformed {
 pub struct Head {
     pub form: Form,
     /// LENGTH, the number of all pairs of the block.
-    pub pairs: usize,
+    pub pairs: u16,
     pub mode: u8,
     pub submode: u8,
 }
 
-fn worth(left: u8, right: u8) -> u16
-    ensures { λ r. ⌜ r ≡ pair left right ⌝ }
-{
-    256 * u16::from(left) + u16::from(right)
+impl Head {
+    /// How many bytes the block has.
+    pub fn size(self) -> usize
+        ensures { λ r. ⌜ r ≡ size self ⌝ }
+    {
+        2 * usize::from(self.pairs)
+    }
+
+    /// Where the data field ends: at the CHECKSUM, or with the block.
+    pub fn field_end(self) -> usize
+        ensures { λ r. ⌜ r ≡ field-end self ⌝ }
+    {
+        2 * usize::from(self.pairs.saturating_sub(self.form.checksum_pairs()))
+    }
 }
 
 fn read_frame(bytes: &[u8]) -> Result<Head, Malformed>
@@ -66,29 +76,20 @@ fn read_frame(bytes: &[u8]) -> Result<Head, Malformed>
         1 => Form::LengthOnly,
         _ => return Err(Malformed::Flag),
     };
-    let pairs = usize::from(first % 16_384);
+    let pairs = first % 16_384;
     if pairs < form.fewest_pairs() || pairs > MOST_PAIRS {
         return Err(Malformed::Length);
     }
-    if bytes.len() < 2 * pairs {
-        return Err(Malformed::Past);
-    }
-    Ok(Head {
+    let head = Head {
         form,
         pairs,
         mode: *mode,
         submode: *submode,
-    })
-}
-
-fn sum_pairs(block: &[u8]) -> u16
-    ensures { λ r. ⌜ r ≡ pair-sum (now (block .entry)) ⌝ }
-{
-    let mut sum: u16 = 0;
-    for two in block.chunks_exact(2) {
-        sum = sum.wrapping_add(worth(two[0], two[1]));
+    };
+    if bytes.len() < head.size() {
+        return Err(Malformed::Past);
     }
-    sum
+    Ok(head)
 }
 
 fn is_unbalanced(form: Form, block: &[u8]) -> bool
@@ -104,7 +105,7 @@ fn check_sound(head: Head, bytes: &[u8]) -> Result<(), Malformed>
     requires { ⌜ Framed head (now bytes) ⌝ }
     ensures { λ r. ⌜ r ≡ sound head (now (bytes .entry)) ⌝ }
 {
-    if is_unbalanced(head.form, &bytes[0..2 * head.pairs]) {
+    if is_unbalanced(head.form, &bytes[0..head.size()]) {
         return Err(Malformed::Sum);
     }
     if head.mode > MOST_MODE {

@@ -22,7 +22,7 @@ impl Form {
     }
 
     /// How many pairs the CHECKSUM takes.
-    pub fn checksum_pairs(self) -> usize
+    pub fn checksum_pairs(self) -> u16
         ensures { λ r. ⌜ r ≡ checksum-pairs self ⌝ }
     {
         match self {
@@ -32,7 +32,7 @@ impl Form {
     }
 
     /// LENGTH of a block without data.
-    pub fn fewest_pairs(self) -> usize
+    pub fn fewest_pairs(self) -> u16
         ensures { λ r. ⌜ r ≡ fewest-pairs self ⌝ }
     {
         2 + self.checksum_pairs()

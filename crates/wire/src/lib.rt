@@ -2,3 +2,6 @@
 pub mod blocks;
 pub mod classes;
 pub mod forms;
+pub mod laws;
+pub mod pairs;
+pub mod rows;
