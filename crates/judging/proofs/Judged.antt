@@ -1,12 +1,12 @@
 -- What an accepted block tells.
 use mathlib.Core.Path.{_≡_, sym, subst, _∙_}
-use mathlib.Core.List.{List}
+use mathlib.Core.List.{List, []}
 use mathlib.Core.Bool.{Bool, true, false, cond, _&&_}
 use Prim.Native.Nat.{ℕ, _≤_}
 use native.Mathlib.Omega.{arith}
 use lib.Dec.{ltb}
 use lib.IntN.{ℤ}
-use Rattle.std.proofs.shelf.Tests.{ltb-false, cond-false}
+use Rattle.std.proofs.shelf.Tests.{ltb-false, cond-true, cond-false}
 use Rattle.std.specs.declared.result.Result.{Result}
 use Rattle.std.specs.declared.result.Result.the-variants.{Ok, Err}
 use Rattle.wire.specs.declared.blocks.Head.{Head}
@@ -26,9 +26,11 @@ pub record Placed (k : ℕ) (h : Head) : Type 0 where
   pub end-bare : is-end (h .mode) (h .submode) ≡ true → h .pairs ≤ fewest-pairs (h .form)
 
 pub record Accepted (M : Meaning) (k : ℕ) (bs : List ℕ) (x : Judged) : Type 0 where
+  pub judged : judged-block M k bs ≡ Ok x
   pub head : read-head bs ≡ Ok (x .head)
   pub place : Placed k (x .head)
   pub reads : is-end (x .head .mode) (x .head .submode) ≡ false → M .reading (x .head .mode) (x .head .submode) (field-of (x .head) bs) ≡ Ok (x .numbers)
+  pub end-empty : is-end (x .head .mode) (x .head .submode) ≡ true → x .numbers ≡ []
 
 bare : (e : Bool) (a b : ℕ) → (e && ltb a b) ≡ false → e ≡ true → b ≤ a
 bare true a b h t = ltb-false a b h
@@ -49,7 +51,9 @@ judged-back M k bs x e =
     let c = went-on (numbers-of M (a .0) bs) _ (b .2) in
     subst (Accepted M k bs) (same-ok (c .2))
     (record {
+      judged = e ∙ sym (c .2);
       head = blameless Wire _ (a .1);
       place = placed-back k (a .0) (b .1);
       reads = λ i. blameless Field _ (sym (cond-false (is-end (a .0 .mode) (a .0 .submode)) _ _ i) ∙ c .1);
+      end-empty = λ i. sym (same-ok (sym (cond-true (is-end (a .0 .mode) (a .0 .submode)) _ _ i) ∙ c .1));
     })

@@ -1,3 +1,4 @@
 pub mod Walks
 pub mod Written
 pub mod Within
+pub mod Standing

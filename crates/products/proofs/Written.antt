@@ -1,11 +1,9 @@
 -- An accepted product is the blocks of the records read in it, and the end.
 use mathlib.Core.Path.{_≡_, refl, sym, ap, ap₂, subst, _∙_}
 use mathlib.Core.List.{List, [], _∷_, _++_}
-use mathlib.Core.Bool.{Bool, true, false, cond}
-use mathlib.Core.Logic.{inl, inr}
+use mathlib.Core.Bool.{true, false}
 use Prim.Native.Nat.{ℕ, zero, suc, _+_, _-_, _*_, _≤_}
 use native.Mathlib.Omega.{arith}
-use lib.Dec.{ltb, eqb}
 use lib.ListN.{length, take, drop}
 use Rattle.std.specs.Joined.{joined}
 use Rattle.std.specs.Vec.{made}
@@ -13,44 +11,40 @@ use Rattle.std.specs.declared.result.Result.{Result}
 use Rattle.std.specs.declared.result.Result.the-variants.{Ok, Err}
 use Rattle.std.proofs.shelf.Elements.{all-take, all-drop}
 use Rattle.std.proofs.shelf.Lists.{append-assoc, append-nil, drop-all}
-use Rattle.std.proofs.shelf.Tests.{ltb-false, eqb-true, and-parts, cond-true, cond-false, cases-bool}
+use Rattle.std.proofs.shelf.Tests.{eqb-true, and-parts}
 use Rattle.wire.specs.declared.blocks.Head.{Head}
 use Rattle.wire.specs.Blocks.{block-bytes, size, field-end, field-of, rest-of}
-use Rattle.wire.specs.Codec.{Decoded}
-use Rattle.wire.specs.Forms.{fewest-pairs, checksum-pairs}
 use Rattle.wire.specs.Pairs.{Byte, Bytes}
-use Rattle.wire.specs.Steps.{_>>=_, blame}
+use Rattle.wire.specs.Steps.{blame}
 use Rattle.wire.proofs.Coding.{codec}
-use Rattle.wire.proofs.Passing.{passed, went-on, blameless, same-ok}
+use Rattle.wire.proofs.Passing.{went-on}
 use Rattle.books.specs.Books.{Meaning, Lawful}
-use Rattle.judging.specs.declared.faults.BlockFault.the-variants.{Leftover}
 use Rattle.judging.specs.declared.faults.ReceiptFault.{ReceiptFault}
-use Rattle.judging.specs.Blocks.{Judged, judged-block}
+use Rattle.judging.specs.Blocks.{Judged}
 use Rattle.judging.specs.Faults.{located}
 use Rattle.judging.specs.Places.{is-end}
-use Rattle.judging.proofs.Judged.{Accepted, judged-back}
+use Rattle.judging.proofs.Judged.{Accepted}
 use Rattle.products.specs.declared.closed.Closed.{Closed}
-use Rattle.products.specs.Receipts.{Record, Received, record-of, before, ended, onward, closed-walk, counted, receipt, received, closed-as, most-blocks}
-use Rattle.products.specs.Records.{block-with, block-of, end-of, closed-bytes, AsWritten}
+use Rattle.products.specs.Receipts.{Received, record-of, closed-walk, counted, receipt, received, closed-as, most-blocks}
+use Rattle.products.specs.Records.{block-with, block-of, end-of, closed-bytes, As-written}
+use Rattle.products.proofs.Walks.{Turn, ends, goes, turn-back, none-walked}
 
 bytes-field : (h : Head) (bs : List ℕ) → Bytes bs → Bytes (field-of h bs)
 bytes-field h bs ok = all-take Byte (field-end h - 4) (drop 4 bs) (all-drop Byte 4 bs ok)
 
 -- the end
-ending : (M : Meaning) (k at : ℕ) (bs : List ℕ) (x : Judged) (y : Received) → Bytes bs → Accepted M k bs x
-    → is-end (x .head .mode) (x .head .submode) ≡ true → ended k at bs (x .head) ≡ Ok y → bs ≡ closed-bytes M y
-ending M k at bs x y ok a e h =
-    let p = passed (ltb (size (x .head)) (length bs)) _ _ h in
+ending : (M : Meaning) (k : ℕ) (bs : List ℕ) (x : Judged) → Bytes bs → Accepted M k bs x
+    → is-end (x .head .mode) (x .head .submode) ≡ true → length bs ≤ size (x .head) → bs ≡ end-of (x .head .form)
+ending M k bs x ok a e last =
     let m = and-parts _ _ e in
     let mode : x .head .mode ≡ 1 = eqb-true _ _ (m .0) in
     let sub : x .head .submode ≡ 2 = eqb-true _ _ (m .1) in
     let few = a .place .end-bare e in
     let none : field-end (x .head) - 4 ≡ 0 = omega arith in
     let field : field-of (x .head) bs ≡ [] = ap (λ n. take n (drop 4 bs)) none in
-    let rest : rest-of (x .head) bs ≡ [] = drop-all (size (x .head)) bs (ltb-false _ _ (p .0)) in
-    let whole = codec .decodes bs (x .head) ok (a .head) .whole in
+    let rest : rest-of (x .head) bs ≡ [] = drop-all (size (x .head)) bs last in
     let block : block-bytes (x .head .form) (x .head .mode) (x .head .submode) (field-of (x .head) bs) ≡ end-of (x .head .form) = rw (mode, sub, field) refl in
-    subst (λ y. bs ≡ closed-bytes M y) (same-ok (p .1)) (whole ∙ ap₂ (λ b r. b ++ r) block rest ∙ append-nil (end-of (x .head .form)))
+    codec .decodes bs (x .head) ok (a .head) .whole ∙ ap₂ (λ b r. b ++ r) block rest ∙ append-nil (end-of (x .head .form))
 
 module _ (M : Meaning) (L : Lawful M) where
   -- a record is written as the block that it was read from
@@ -61,21 +55,15 @@ module _ (M : Meaning) (L : Lawful M) where
       codec .decodes bs (x .head) ok (a .head) .whole ∙ ap (λ b. b ++ rest-of (x .head) bs) (sym (ap (block-with (record-of x)) w))
 
   walked : (n k at : ℕ) (bs : List ℕ) (y : Received) → Bytes bs → closed-walk M n k at bs ≡ Ok y → bs ≡ closed-bytes M y
-  unfolding closed-walk
-  walked zero k at bs y ok h = absurd (let z : _≡_ {A = ℕ} 0 1 = cc in omega arith)
-  walked (suc n) k at bs y ok h =
-      let p = went-on (blame (located k at) (judged-block M k bs)) _ h in
-      let x = p .0 in
-      let a = judged-back M k bs x (blameless (located k at) _ (p .1)) in
-      elim (cases-bool (is-end (x .head .mode) (x .head .submode))) [
-        | inl e ↦ ending M k at bs x y ok a e (sym (cond-true _ _ _ e) ∙ p .2)
-        | inr e ↦
-            let q = went-on (closed-walk M n (k + 1) (at + size (x .head)) (rest-of (x .head) bs)) _ (sym (cond-false _ _ _ e) ∙ p .2) in
-            let more = walked n (k + 1) (at + size (x .head)) (rest-of (x .head) bs) (q .0) (all-drop Byte (size (x .head)) bs ok) (q .1) in
-            subst (λ y. bs ≡ closed-bytes M y) (same-ok (q .2))
-            (again k bs x ok a e ∙ ap (λ r. block-of M (record-of x) ++ r) more
-            ∙ sym (append-assoc (block-of M (record-of x)) (joined (block-of M) (q .0 .records)) (end-of (q .0 .close))))
-      ]
+  walked zero k at bs y ok h = absurd (none-walked M k at bs y h)
+  walked (suc n) k at bs y ok h = elim (turn-back M n k at bs y h) [
+    | ends x a e last is ↦ subst (λ y. bs ≡ closed-bytes M y) is (ending M k bs x ok a e last)
+    | goes x z a e w is ↦
+        subst (λ y. bs ≡ closed-bytes M y) is
+        (again k bs x ok a e
+        ∙ ap (λ r. block-of M (record-of x) ++ r) (walked n (k + 1) (at + size (x .head)) (rest-of (x .head) bs) z (all-drop Byte (size (x .head)) bs ok) w)
+        ∙ sym (append-assoc (block-of M (record-of x)) (joined (block-of M) (z .records)) (end-of (z .close))))
+  ]
 
   pub receipt-written : (mem : List ℕ) (n : ℕ) (x : Received) → Bytes mem → receipt M mem n ≡ Ok x → take n mem ≡ closed-bytes M x
   unfolding receipt
@@ -83,9 +71,9 @@ module _ (M : Meaning) (L : Lawful M) where
       let p = went-on (blame (located 0 0) (counted (length mem) n)) _ h in
       walked most-blocks 0 0 (take n mem) x (all-take Byte n mem ok) (p .2)
 
-  as-written : (mem : List ℕ) (n : ℕ) → Bytes mem → (w : Result Received ReceiptFault) → receipt M mem n ≡ w → made (closed-as n 0 w) (AsWritten M mem)
+  as-written : (mem : List ℕ) (n : ℕ) → Bytes mem → (w : Result Received ReceiptFault) → receipt M mem n ≡ w → made (closed-as n 0 w) (As-written M mem)
   as-written mem n ok (Ok x) e = (x, e, receipt-written mem n x ok e)
   as-written mem n ok (Err f) e = tt
 
-  pub received-written : (mem : List ℕ) (n : ℕ) (r : Result Closed ReceiptFault) → Bytes mem → r ≡ received M mem n → made r (AsWritten M mem)
-  received-written mem n r ok e = subst (λ r. made r (AsWritten M mem)) (sym e) (as-written mem n ok (receipt M mem n) refl)
+  pub received-written : (mem : List ℕ) (n : ℕ) (r : Result Closed ReceiptFault) → Bytes mem → r ≡ received M mem n → made r (As-written M mem)
+  received-written mem n r ok e = subst (λ r. made r (As-written M mem)) (sym e) (as-written mem n ok (receipt M mem n) refl)

@@ -2,7 +2,7 @@
 use mathlib.Core.List.{List, [], _∷_, _++_}
 use mathlib.Core.Path.{_≡_}
 use Prim.Native.Nat.{ℕ}
-use lib.ListN.{take}
+use lib.ListN.{getD, take}
 use Rattle.std.specs.Joined.{joined}
 use Rattle.std.specs.declared.result.Result.{Result}
 use Rattle.std.specs.declared.result.Result.the-variants.{Ok, Err}
@@ -24,11 +24,18 @@ block-of M r = block-with r (M .writing (r .mode) (r .submode) (r .numbers))
 abbrev pub end-of : Form → List ℕ
 end-of form = block-bytes form 1 2 []
 
+-- what block k of a product says: the record at k, and behind the records the end
+abbrev pub end-record : Form → Record
+end-record form = record { form = form; mode = 1; submode = 2; numbers = [] }
+
+abbrev pub block-record : Received → ℕ → Record
+block-record x k = getD (x .records) k (end-record (x .close))
+
 -- the bytes of a closed product: the blocks of its records in order, then the end
 abbrev pub closed-bytes : Meaning → Received → List ℕ
 closed-bytes M x = joined (block-of M) (x .records) ++ end-of (x .close)
 
 -- a product's bytes in memory are those of what is read in it
-abbrev pub AsWritten : Meaning → List ℕ → Closed → Type 0
-AsWritten M mem p =
+abbrev pub As-written : Meaning → List ℕ → Closed → Type 0
+As-written M mem p =
     (x : Received) × (receipt M mem (p .bytes) ≡ Ok x) × (take (p .bytes) mem ≡ closed-bytes M x)

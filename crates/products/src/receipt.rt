@@ -1,6 +1,6 @@
 // The receipt of a product.
 ghost use Rattle.products.specs.Receipts.{most-bytes, most-blocks, counted, closed-walk, closed-as, received};
-ghost use Rattle.products.specs.Records.{AsWritten};
+ghost use Rattle.products.specs.Records.{As-written};
 ghost use Rattle.std.specs.Vec.{made};
 ghost use lib.ListN.{length};
 ghost use Prim.Native.Nat.{_≤_};
@@ -65,7 +65,7 @@ impl Closed {
     pub fn receive<B: Book>(memory: &[u8], count: usize, book: &B) -> Result<Closed, ReceiptFault>
         ensures value { λ r. ⌜ r ≡ received (meaning (now (book .entry))) (now (memory .entry)) count ⌝ }
         ensures within { λ r. ⌜ made r (λ p. p .bytes ≤ length (now (memory .entry))) ⌝ }
-        ensures written { λ r. ⌜ made r (AsWritten (meaning (now (book .entry))) (now (memory .entry))) ⌝ }
+        ensures written { λ r. ⌜ made r (As-written (meaning (now (book .entry))) (now (memory .entry))) ⌝ }
     {
         bytes_known(memory);
         check_count(memory.len(), count)?;

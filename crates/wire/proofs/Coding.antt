@@ -255,33 +255,38 @@ read-back f (a ∷ b ∷ c ∷ e ∷ t) h ok l n k =
     let is = k .is in
     rw is (decoded a b c e t f (pair a b % 16384) ok (omega (arith, n)) (k .least) (k .most) (omega (arith, k .within)) (k .balances) (k .mode-fits))
 
-by-flag : (bs : List ℕ) (h : Head) → Bytes bs → 4 ≤ length bs → (r : Result Form Malformed) → flagged (first-pair bs / 16384) ≡ r
-    → (r >>= (λ f. framed-in f bs >>= (λ h. sound h bs >>= (λ _. Ok h)))) ≡ Ok h → Decoded h bs
-by-flag bs h ok l (Ok f) n e = read-back f bs h ok l (flag-number _ f n) (checked f bs h e)
-by-flag bs h ok l (Err x) n e = absurd (let z : _≡_ {A = ℕ} 0 1 = cc in omega arith)
+-- a head that is read passed its checks in the form of its flag
+by-flag : (bs : List ℕ) (h : Head) (r : Result Form Malformed) → flagged (first-pair bs / 16384) ≡ r
+    → (r >>= (λ f. framed-in f bs >>= (λ h. sound h bs >>= (λ _. Ok h)))) ≡ Ok h → (f : Form) × (flagged (first-pair bs / 16384) ≡ Ok f) × Checked f bs h
+by-flag bs h (Ok f) n e = (f, n, checked f bs h e)
+by-flag bs h (Err x) n e = absurd (let z : _≡_ {A = ℕ} 0 1 = cc in omega arith)
+
+read-long : (bs : List ℕ) (h : Head) → read-head bs ≡ Ok h → 4 ≤ length bs
+unfolding read-head
+read-long bs h e = grind arith
+
+read-checked : (bs : List ℕ) (h : Head) → read-head bs ≡ Ok h → (f : Form) × (flagged (first-pair bs / 16384) ≡ Ok f) × Checked f bs h
+unfolding read-head
+read-checked bs h e = by-flag bs h _ refl (grind arith)
 
 decodes : (bs : List ℕ) (h : Head) → Bytes bs → read-head bs ≡ Ok h → Decoded h bs
-unfolding read-head
-decodes bs h ok e =
-    let l : 4 ≤ length bs = grind arith in
-    by-flag bs h ok l _ refl (grind arith)
+decodes bs h ok e = let k = read-checked bs h e in read-back (k .0) bs h ok (read-long bs h e) (flag-number _ (k .0) (k .1)) (k .2)
 
 -- the first pair of a block tells how far it reaches
-extent-in : (f : Form) (bs : List ℕ) (h : Head) → 4 ≤ length bs → Checked f bs h → extent bs ≡ size h
-extent-in f [] h l k = absurd (omega arith)
-extent-in f (a ∷ []) h l k = absurd (omega arith)
-extent-in f (a ∷ b ∷ bs) h l k = sym (ap size (k .is))
-
-extent-by-flag : (bs : List ℕ) (h : Head) → 4 ≤ length bs → (r : Result Form Malformed)
-    → (r >>= (λ f. framed-in f bs >>= (λ h. sound h bs >>= (λ _. Ok h)))) ≡ Ok h → extent bs ≡ size h
-extent-by-flag bs h l (Ok f) e = extent-in f bs h l (checked f bs h e)
-extent-by-flag bs h l (Err x) e = absurd (let z : _≡_ {A = ℕ} 0 1 = cc in omega arith)
+extent-long : (bs : List ℕ) → 4 ≤ length bs → extent bs ≡ 2 * (first-pair bs % 16384)
+extent-long [] l = absurd (omega arith)
+extent-long (a ∷ []) l = absurd (omega arith)
+extent-long (a ∷ b ∷ bs) l = refl
 
 pub extent-is : (bs : List ℕ) (h : Head) → read-head bs ≡ Ok h → extent bs ≡ size h
-unfolding read-head
-extent-is bs h e =
-    let l : 4 ≤ length bs = grind arith in
-    extent-by-flag bs h l (flagged (first-pair bs / 16384)) (grind arith)
+extent-is bs h e = extent-long bs (read-long bs h e) ∙ sym (ap size (read-checked bs h e .2 .is))
+
+-- a head that is read lies in front of the bytes
+pub head-lies : (bs : List ℕ) (h : Head) → read-head bs ≡ Ok h → Framed h bs
+head-lies bs h e =
+    let k = read-checked bs h e in
+    let is = k .2 .is in
+    rw is (record { least = k .2 .least; most = k .2 .most; within = k .2 .within })
 
 pub codec : Codec
 codec = record { decodes = decodes; encodes = encoded }

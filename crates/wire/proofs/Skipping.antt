@@ -1,9 +1,9 @@
 -- Blocks in a row, one block on.
-use mathlib.Core.Path.{_≡_, refl, ap, _∙_}
-use mathlib.Core.List.{List, []}
-use Prim.Native.Nat.{ℕ, zero, suc, _+_, _-_, _<_}
+use mathlib.Core.Path.{_≡_, refl, ap}
+use mathlib.Core.List.{List}
+use Prim.Native.Nat.{ℕ, zero, suc, _+_, _-_, _<_, _≤_}
 use native.Mathlib.Omega.{arith}
-use lib.ListN.{drop}
+use lib.ListN.{length, drop, length-drop}
 use Rattle.wire.specs.Rows.{extent, behind}
 
 pub behind-none : (n : ℕ) (bs : List ℕ) → n ≡ 0 → behind n bs ≡ bs
@@ -20,3 +20,8 @@ pub behind-more : (k : ℕ) (bs : List ℕ) → behind (suc k) bs ≡ drop (exte
 unfolding behind
 behind-more zero bs = refl
 behind-more (suc k) bs = behind-more k (drop (extent bs) bs)
+
+pub behind-length : (k : ℕ) (bs : List ℕ) → length (behind k bs) ≤ length bs
+unfolding behind
+behind-length zero bs = omega arith
+behind-length (suc k) bs = omega (arith, behind-length k (drop (extent bs) bs), length-drop (extent bs) bs)

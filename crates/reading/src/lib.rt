@@ -1,0 +1,2 @@
+// Reading: what a closed product tells of its blocks.
+pub mod facts;
