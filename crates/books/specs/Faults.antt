@@ -10,7 +10,7 @@ use Rattle.std.specs.declared.option.Option.the-variants.{Some, None}
 use Rattle.std.specs.declared.result.Result.{Result}
 use Rattle.std.specs.declared.result.Result.the-variants.{Ok, Err}
 use Rattle.books.specs.declared.faults.Rule.{Rule}
-use Rattle.books.specs.declared.faults.Rule.the-variants.{DataLength, ListLength, NumberRange, ByteRange}
+use Rattle.books.specs.declared.faults.Rule.the-variants.{DataLength, ListLength, NumberRange, ByteRange, EarlyEnd, WrongEnd, StraySeparator}
 use Rattle.books.specs.declared.faults.FieldFault.{FieldFault}
 
 -- the number of each rule
@@ -19,6 +19,9 @@ rule-number DataLength = 1
 rule-number ListLength = 2
 rule-number NumberRange = 3
 rule-number ByteRange = 4
+rule-number EarlyEnd = 5
+rule-number WrongEnd = 6
+rule-number StraySeparator = 7
 
 -- a rule that is broken, and the place where it is
 abbrev pub fault-at : Rule → ℕ → FieldFault

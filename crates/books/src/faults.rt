@@ -13,6 +13,12 @@ pub enum Rule {
     NumberRange,
     /// A byte or pair outside its range; the place is the offset of its first byte.
     ByteRange,
+    /// A character that ends a text, before its end; the place is its offset or index.
+    EarlyEnd,
+    /// A last character that ends no text; the place is its offset or index.
+    WrongEnd,
+    /// RS in a text that ends in NUL; the place is its offset or index.
+    StraySeparator,
 }
 
 impl Rule {

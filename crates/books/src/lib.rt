@@ -3,4 +3,4 @@ pub mod book;
 pub mod faults;
 pub mod known;
 pub mod plain;
-mod scan;
+pub mod scan;

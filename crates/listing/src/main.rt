@@ -1,6 +1,6 @@
 // Receives a product data set from standard input, and lists its blocks or tells the one refusal.
-use books::plain::PlainWords;
-use books::plain::PlainWordsBook;
+use four_kinds::FourKinds;
+use four_kinds::FourKindsBook;
 use judging::faults::ReceiptFault;
 use judging::faults::Refusal;
 use lines::listing::write_line;
@@ -44,7 +44,7 @@ fn print_line(
 fn print_listing(output: &mut impl Write, product: &Closed, memory: &[u8]) -> Result<(), AnyError> {
     for number in 0..=product.blocks() {
         let mut line = [0u8; LINE_BYTES];
-        let told = write_line(product, memory, &PlainWords, number, &mut line);
+        let told = write_line(product, memory, &FourKinds, number, &mut line);
         print_line(output, &line, told)?;
     }
     Ok(())
@@ -58,7 +58,7 @@ fn print_refusal(output: &mut impl Write, fault: ReceiptFault) -> Result<(), Any
 }
 
 fn list(output: &mut impl Write, memory: &[u8], count: usize) -> Result<(), AnyError> {
-    match Closed::receive(memory, count, &PlainWords) {
+    match Closed::receive(memory, count, &FourKinds) {
         Ok(product) => print_listing(output, &product, memory),
         Err(fault) => print_refusal(output, fault),
     }

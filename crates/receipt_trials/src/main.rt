@@ -1,7 +1,7 @@
 // Receives each product of a table, and prints its name with its line or its refusal.
 // A line of the table is a name, a count of bytes or `all`, and then parts: hex digits, or `N*` and hex digits for N repetitions.
-use books::plain::PlainWords;
-use books::plain::PlainWordsBook;
+use four_kinds::FourKinds;
+use four_kinds::FourKindsBook;
 use judging::faults::Refusal;
 use lines::listing::write_line;
 use lines::refusals::write_refusal;
@@ -49,8 +49,8 @@ fn print_told(rt: &LibcRuntime, line: &[u8], told: Result<usize, Refusal>) -> Re
 
 fn print_receipt(rt: &LibcRuntime, memory: &[u8], count: usize) -> Result<(), AnyError> {
     let mut line = [0u8; 256];
-    let told = match Closed::receive(memory, count, &PlainWords) {
-        Ok(product) => write_line(&product, memory, &PlainWords, 0, &mut line),
+    let told = match Closed::receive(memory, count, &FourKinds) {
+        Ok(product) => write_line(&product, memory, &FourKinds, 0, &mut line),
         Err(fault) => write_refusal(fault, &mut line),
     };
     print_told(rt, &line, told)

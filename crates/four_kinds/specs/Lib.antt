@@ -1,0 +1,2 @@
+pub mod FourKinds
+pub mod FourLaws

@@ -1,0 +1,4 @@
+pub mod Characters
+pub mod Heads
+pub mod Tails
+pub mod Lists

@@ -1,0 +1,3 @@
+// Characters on a chart.
+pub mod kind;
+mod parts;

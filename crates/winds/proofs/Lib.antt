@@ -1,0 +1,3 @@
+pub mod Barbs
+pub mod Places
+pub mod Wholes

@@ -1,0 +1,2 @@
+pub mod Winds
+pub mod WindLaws
