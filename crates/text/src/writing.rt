@@ -11,7 +11,7 @@ use crate::items::Value;
 use crate::pen::Pen;
 
 impl Pen {
-    pub fn new() -> Pen
+    pub(crate) fn new() -> Pen
         ensures text { λ r. ⌜ written r ≡ [] ⌝ }
         ensures len { λ r. ⌜ r .len ≡ 0 ⌝ }
     {
@@ -101,7 +101,7 @@ impl Pen {
     }
 
     // Eight items of at most 30 bytes fit the pen, with the blanks between them and the end of the line.
-    pub fn row(&mut self, items: &[Item])
+    pub(crate) fn row(&mut self, items: &[Item])
         requires { ⌜ now self .len ≡ 0 ⌝ }
         requires { ⌜ length (now items) ≤ 8 ⌝ }
         ensures { λ _. ⌜ written (now (self .exit)) ≡ row-text (now (items .entry)) ⌝ }
