@@ -1,4 +1,6 @@
 // The four questions of the plain-word book, on tables of cases.
+#![tactic(auto)]
+
 #[cfg(test)]
 mod tests {
     use books::book::Book;

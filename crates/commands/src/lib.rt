@@ -1,4 +1,6 @@
 // The commands of a mending script, one a line.
+#![tactic(auto)]
+
 pub mod command;
 pub mod faults;
 mod words;

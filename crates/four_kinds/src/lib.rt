@@ -1,4 +1,6 @@
 // The book that the programs use: the four kinds of mode 5 over the plain-word book.
+#![tactic(auto)]
+
 ghost use Rattle.four_kinds.specs.FourKinds.{four_kinds};
 ghost use Rattle.four_kinds.specs.FourLaws.{four_lawful};
 

@@ -18,7 +18,7 @@ pub struct Found {
 /// The end is not put to the book.
 fn count_numbers<B: Book>(head: Head, bytes: &[u8], book: &B) -> Result<usize, BlockFault>
     requires { Framed head bytes.now }
-    ensures { result ≡ counted_numbers (meaning book.now) head bytes.now }
+    ensures { result ≡ counted_numbers (B.meaning book.now) head bytes.now }
 {
     if is_end(head.mode, head.submode) {
         return Ok(0);
@@ -29,7 +29,7 @@ fn count_numbers<B: Book>(head: Head, bytes: &[u8], book: &B) -> Result<usize, B
 
 /// Judges the block at the front of the bytes in its place.
 pub fn judge_block<B: Book>(bytes: &[u8], block: usize, book: &B) -> Result<Found, BlockFault>
-    ensures value { result ≡ found (judged_block (meaning book.now) block bytes.now) }
+    ensures value { result ≡ found (judged_block (B.meaning book.now) block bytes.now) }
     ensures fits { IfOk result (λ f. Framed f.head bytes.now) }
 {
     let head = read_head(bytes)?;
@@ -45,7 +45,7 @@ pub fn judge_block_in<B: Book>(
     block: usize,
     book: &B,
 ) -> Result<Found, BlockFault>
-    ensures value { result ≡ found (judged_in phase (meaning book.now) block bytes.now) }
+    ensures value { result ≡ found (judged_in phase (B.meaning book.now) block bytes.now) }
     ensures fits { IfOk result (λ f. Framed f.head bytes.now) }
 {
     let head = read_head(bytes)?;

@@ -3,6 +3,8 @@
 //     judge FIELD        number INDEX FIELD        weigh LIST        write SIZE LIST
 // A field is parts of hex digits, a list is numbers; `N*` before one of them stands for N repetitions.
 // The books are `plain`, `four`, and each kind over plain words: `routing`, `message`, `labels`, `winds`.
+#![tactic(auto)]
+
 use anyhow::{Context, anyhow};
 use books::book::Book;
 use books::faults::FieldFault;

@@ -1,4 +1,6 @@
 // Kinds: what the data fields of one mode and submode hold, and a kind laid over any book.
+#![tactic(auto)]
+
 pub mod fixed;
 pub mod kind;
 pub mod over;

@@ -1,4 +1,6 @@
 // The four questions of characters on a chart, on tables of cases.
+#![tactic(auto)]
+
 #[cfg(test)]
 mod tests {
     use books::faults::{FieldFault, Rule};

@@ -1,3 +1,5 @@
 // Characters on a chart.
+#![tactic(auto)]
+
 pub mod kind;
 mod parts;

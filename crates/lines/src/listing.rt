@@ -10,7 +10,7 @@ use reading::facts::block_facts;
 use text::lines::{BlockLine, Line, ProductLine};
 
 fn line_of_product<B: Book>(product: &Closed, memory: &[u8], book: &B) -> Result<Line, Refusal>
-    ensures { result ≡ product_line (meaning book.now) memory.now product.now }
+    ensures { result ≡ product_line (B.meaning book.now) memory.now product.now }
 {
     product.check_held(memory, book)?;
     Ok(Line::Product(ProductLine {
@@ -26,7 +26,7 @@ fn line_of_block<B: Book>(
     book: &B,
     block: usize,
 ) -> Result<Line, Refusal>
-    ensures { result ≡ block_line (meaning book.now) memory.now product.now block }
+    ensures { result ≡ block_line (B.meaning book.now) memory.now product.now block }
 {
     let facts = block_facts(product, memory, book, block)?;
     Ok(Line::Block(BlockLine {
@@ -48,8 +48,8 @@ pub fn write_line<B: Book>(
     number: usize,
     out: &mut [u8],
 ) -> Result<usize, Refusal>
-    ensures answer { result ≡ put_answer (line_of (meaning book.now) memory.now product.now number) out.old }
-    ensures after { out.new ≡ put_after (line_of (meaning book.now) memory.now product.now number) out.old }
+    ensures answer { result ≡ put_answer (line_of (B.meaning book.now) memory.now product.now number) out.old }
+    ensures after { out.new ≡ put_after (line_of (B.meaning book.now) memory.now product.now number) out.old }
 {
     let line = if number == 0 {
         line_of_product(product, memory, book)?

@@ -1,4 +1,6 @@
 // Receives a product data set from standard input, and lists its blocks or tells the one refusal.
+#![tactic(auto)]
+
 use anyhow::anyhow;
 use four_kinds::FourKinds;
 use judging::faults::{ReceiptFault, Refusal};

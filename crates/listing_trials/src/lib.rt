@@ -1,4 +1,6 @@
 // A held product and one that is no longer held, the facts of its blocks, and its lines in memory that is long enough and too short.
+#![tactic(auto)]
+
 #[cfg(test)]
 mod tests {
     use books::book::Book;

@@ -1,4 +1,6 @@
 // The law of one writing, over every life of a product, and a life that was worked by hand.
+#![tactic(auto)]
+
 ghost use Rattle.lives.specs.Law.{OneWriting};
 ghost use Rattle.lives.specs.Worked.{WorkedLife};
 

@@ -1,4 +1,6 @@
 // Bytes moved within a memory that is partly in use.
+#![tactic(auto)]
+
 ghost use Rattle.memory.specs.Laid.{zeros, laid, has_room, gapped};
 ghost use Rattle.std.specs.Prelude.{◌≡◌, ◌+◌, ◌≤◌, length, take, drop};
 

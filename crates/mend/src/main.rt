@@ -1,4 +1,6 @@
 // Plays a mending script from standard input: starts or receives a product, and mends it as the script says.
+#![tactic(auto)]
+
 use anyhow::anyhow;
 use scripts::player::Player;
 use std::io;

@@ -1,5 +1,7 @@
 // Plays each script of a table, and prints its name before what the player prints.
 // `case NAME` begins a script. In the table alone, `repeat N LINE` stands for the line N times, and a word `N*WORD` for the word N times.
+#![tactic(auto)]
+
 use anyhow::{Context, anyhow};
 use scripts::player::Player;
 use std::alloc::Global;

@@ -1,4 +1,6 @@
 // Calls on a product whose memory was changed behind its back, is another one or is short, and what stands in the memory behind a product.
+#![tactic(auto)]
+
 #[cfg(test)]
 mod tests {
     use books::book::Book;

@@ -6,7 +6,7 @@ use Rattle.wire.specs.declared.forms.Form.{Form}
 use Rattle.wire.specs.declared.forms.Form.TheVariants.{Checksummed, LengthOnly}
 use Rattle.wire.specs.Forms.{form_number, fewest_pairs}
 use Rattle.wire.specs.Rows.{behind}
-use Rattle.wire.specs.Steps.{blame}
+use Rattle.wire.specs.Steps.{◌>>=◌, blame}
 use Rattle.wire.proofs.Coding.{block_length}
 use Rattle.wire.proofs.Passing.{passed, went_on, blameless, same_ok}
 use Rattle.books.specs.Books.{Meaning}
@@ -16,6 +16,7 @@ use Rattle.receipt.specs.Receipts.{Received, receipt, most_blocks}
 use Rattle.receipt.specs.Closings.{end_of, blocks_of, block_record, ReadsWritten}
 use Rattle.receipt.proofs.Standing.{Stands, receipt_stands}
 use Rattle.receipt.proofs.Within.{receipt_within, receipt_few}
+use Rattle.receipt.specs.Opens.{passes}
 use Rattle.receipt.proofs.Opening.{passed_by}
 use Rattle.products.specs.declared.closed.Closed.{Closed}
 use Rattle.products.specs.Holding.{held, is_held}
@@ -65,6 +66,14 @@ held_few M mem p x h = let b = held_back M mem p x h in omega (arith, b.count, r
 pub held_stands : (M : Meaning) (mem : List ℕ) (p : Closed) (x : Received) → held M mem p ≡ Ok x → (k : ℕ) → k < p.blocks → Stands M k (behind k (take p.bytes mem)) (block_record x k)
 held_stands M mem p x h k l = let b = held_back M mem p x h in receipt_stands M mem p.bytes x b.received k (omega (arith, b.count))
 
+-- whether it is held
+all_pass : {A E : Type 0} (w : Result A E) → (w >>= (λ _. Ok tt)) ≡ passes w
+all_pass (Ok x) = refl
+all_pass (Err e) = refl
+
+pub is_held_passes : (M : Meaning) (mem : List ℕ) (p : Closed) → is_held M mem p ≡ passes (held M mem p)
+is_held_passes M mem p = all_pass (held M mem p)
+
 pub is_held_within : (M : Meaning) (mem : List ℕ) (p : Closed) (r : Result (Unit {0}) Refusal) → r ≡ is_held M mem p → IfOk r (λ _. p.bytes ≤ length mem)
-is_held_within M mem p (Ok u) e = let q = passed_by (held M mem p) (Ok u) u e refl in receipt_within M mem p.bytes q.0 (held_back M mem p q.0 q.1).received
+is_held_within M mem p (Ok u) e = let q = passed_by (held M mem p) (Ok u) u (e ∙ is_held_passes M mem p) refl in receipt_within M mem p.bytes q.0 (held_back M mem p q.0 q.1).received
 is_held_within M mem p (Err f) e = tt

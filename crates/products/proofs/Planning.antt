@@ -16,6 +16,7 @@ use Rattle.judging.specs.declared.faults.Refusal.{Refusal}
 use Rattle.judging.specs.declared.faults.Refusal.TheVariants.{NoRoom}
 use Rattle.records.specs.declared.drafts.Draft.{Draft}
 use Rattle.records.specs.Records.{Given, Record, gives, recorded, bytes_in, block_writing, block_of}
+use Rattle.records.proofs.Sizes.{block_written}
 use Rattle.records.specs.Drafts.{drafted, drafts, draft_of}
 use Rattle.receipt.specs.Receipts.{Received, most_blocks}
 use Rattle.receipt.specs.Closings.{end_of}
@@ -73,7 +74,7 @@ module _ (M : Meaning) (mem : List ℕ) (p : Open) (r : Result (Unit {0}) Refusa
     drafted_so = draft_is M p.blocks _ g a d (checked ∙ ap (λ b. draft_of M (drafted M p.blocks b g)) bars) drawn
 
     size : length (block_of M (drafts d g)) ≡ d.size
-    size = block_size (block_writing M (drafts d g)) d.size fits
+    size = ap length (block_written M (drafts d g)) ∙ block_size (block_writing M (drafts d g)) d.size fits
 
     grown : length (take p.bytes mem ++ block_of M (drafts d g)) ≡ p.bytes + d.size
     grown = length-append (take p.bytes mem) (block_of M (drafts d g)) ∙ ap₂ ◌+◌ (length-take-le p.bytes mem within) size
@@ -129,7 +130,7 @@ module _ (M : Meaning) (mem : List ℕ) (p : Open) (r : Result (Unit {0}) Refusa
       replaced_so = draft_is M k _ g a d (checked ∙ ap (λ b. draft_of M (drafted M k b g)) bars) drawn
 
       new_size : length (block_of M (drafts d g)) ≡ d.size
-      new_size = block_size (block_writing M (drafts d g)) d.size fits
+      new_size = ap length (block_written M (drafts d g)) ∙ block_size (block_writing M (drafts d g)) d.size fits
 
       changed : length (spliced (start_of k (take p.bytes mem)) (start_of (suc k) (take p.bytes mem)) (block_of M (drafts d g)) (take p.bytes mem)) ≡ (p.bytes - (part.to - part.from)) + d.size
       changed =
@@ -235,7 +236,7 @@ module _ (M : Meaning) (mem : List ℕ) (closing form : ℕ) (list : List ℤ) (
 
   start_size : length block ≡ d.size
   unfolding block
-  start_size = block_size (block_writing M (drafts d (gives form 1 1 list))) d.size fits
+  start_size = ap length (block_written M (drafts d (gives form 1 1 list))) ∙ block_size (block_writing M (drafts d (gives form 1 1 list))) d.size fits
 
   pub start_crowded : crowded mem close d.size ≡ true → started M mem closing form list ≡ Err NoRoom
   unfolding started block

@@ -23,8 +23,8 @@ use wire::forms::Form;
 
 impl Open {
     fn check_add<B: Book>(&self, memory: &[u8], book: &B, given: Record) -> Result<Draft, Refusal>
-        ensures answer { passes result ≡ passes (outcome (meaning book.now) memory.now (of_open self.now) (adds (asked given.entry))) }
-        ensures ready { IfOk result (λ d. Ready (meaning book.now) memory.now (of_open self.now) (adds (asked given.entry)) d (asked given.entry) self.now.bytes self.now.bytes (suc self.now.blocks)) }
+        ensures answer { passes result ≡ passes (outcome (B.meaning book.now) memory.now (of_open self.now) (adds (asked given.entry))) }
+        ensures ready { IfOk result (λ d. Ready (B.meaning book.now) memory.now (of_open self.now) (adds (asked given.entry)) d (asked given.entry) self.now.bytes self.now.bytes (suc self.now.blocks)) }
     {
         self.check_held(memory, book)?;
         let misfit = bars_adding(given.mode, given.submode);
@@ -45,9 +45,9 @@ impl Open {
         book: &B,
         given: Record,
     ) -> Result<(), Refusal>
-        ensures answer { result ≡ passes (outcome (meaning book.now) memory.old (of_open self.old) (adds (asked given.entry))) }
-        ensures product { of_open self.new ≡ product_after (outcome (meaning book.now) memory.old (of_open self.old) (adds (asked given.entry))) (of_open self.old) }
-        ensures after { memory.new ≡ memory_after (outcome (meaning book.now) memory.old (of_open self.old) (adds (asked given.entry))) memory.old }
+        ensures answer { result ≡ passes (outcome (B.meaning book.now) memory.old (of_open self.old) (adds (asked given.entry))) }
+        ensures product { of_open self.new ≡ product_after (outcome (B.meaning book.now) memory.old (of_open self.old) (adds (asked given.entry))) (of_open self.old) }
+        ensures after { memory.new ≡ memory_after (outcome (B.meaning book.now) memory.old (of_open self.old) (adds (asked given.entry))) memory.old }
     {
         let draft = self.check_add(memory, book, given)?;
         let part = Part {
@@ -66,8 +66,8 @@ impl Open {
         block: usize,
         given: Record,
     ) -> Result<(Part, Draft), Refusal>
-        ensures answer { passes result ≡ passes (outcome (meaning book.now) memory.now (of_open self.now) (replaces block (asked given.entry))) }
-        ensures ready { IfOk result (λ t. Ready (meaning book.now) memory.now (of_open self.now) (replaces block (asked given.entry)) t.1 (asked given.entry) t.0.from t.0.to self.now.blocks) }
+        ensures answer { passes result ≡ passes (outcome (B.meaning book.now) memory.now (of_open self.now) (replaces block (asked given.entry))) }
+        ensures ready { IfOk result (λ t. Ready (B.meaning book.now) memory.now (of_open self.now) (replaces block (asked given.entry)) t.1 (asked given.entry) t.0.from t.0.to self.now.blocks) }
     {
         self.check_held(memory, book)?;
         if block >= self.blocks {
@@ -91,9 +91,9 @@ impl Open {
         block: usize,
         given: Record,
     ) -> Result<(), Refusal>
-        ensures answer { result ≡ passes (outcome (meaning book.now) memory.old (of_open self.old) (replaces block (asked given.entry))) }
-        ensures product { of_open self.new ≡ product_after (outcome (meaning book.now) memory.old (of_open self.old) (replaces block (asked given.entry))) (of_open self.old) }
-        ensures after { memory.new ≡ memory_after (outcome (meaning book.now) memory.old (of_open self.old) (replaces block (asked given.entry))) memory.old }
+        ensures answer { result ≡ passes (outcome (B.meaning book.now) memory.old (of_open self.old) (replaces block (asked given.entry))) }
+        ensures product { of_open self.new ≡ product_after (outcome (B.meaning book.now) memory.old (of_open self.old) (replaces block (asked given.entry))) (of_open self.old) }
+        ensures after { memory.new ≡ memory_after (outcome (B.meaning book.now) memory.old (of_open self.old) (replaces block (asked given.entry))) memory.old }
     {
         let (part, draft) = self.check_replace(memory, book, block, given)?;
         self.bytes = put_block(memory, self.bytes, part, given, draft, book)?;
@@ -106,8 +106,8 @@ impl Open {
         book: &B,
         block: usize,
     ) -> Result<Part, Refusal>
-        ensures answer { passes result ≡ passes (outcome (meaning book.now) memory.now (of_open self.now) (withdraws block)) }
-        ensures ready { IfOk result (λ part. Planned (meaning book.now) memory.now (of_open self.now) (withdraws block) [] part.from part.to (self.now.blocks - 1)) }
+        ensures answer { passes result ≡ passes (outcome (B.meaning book.now) memory.now (of_open self.now) (withdraws block)) }
+        ensures ready { IfOk result (λ part. Planned (B.meaning book.now) memory.now (of_open self.now) (withdraws block) [] part.from part.to (self.now.blocks - 1)) }
         ensures some { OnOk result (1 ≤ self.now.blocks) }
     {
         self.check_held(memory, book)?;
@@ -127,9 +127,9 @@ impl Open {
         book: &B,
         block: usize,
     ) -> Result<(), Refusal>
-        ensures answer { result ≡ passes (outcome (meaning book.now) memory.old (of_open self.old) (withdraws block)) }
-        ensures product { of_open self.new ≡ product_after (outcome (meaning book.now) memory.old (of_open self.old) (withdraws block)) (of_open self.old) }
-        ensures after { memory.new ≡ memory_after (outcome (meaning book.now) memory.old (of_open self.old) (withdraws block)) memory.old }
+        ensures answer { result ≡ passes (outcome (B.meaning book.now) memory.old (of_open self.old) (withdraws block)) }
+        ensures product { of_open self.new ≡ product_after (outcome (B.meaning book.now) memory.old (of_open self.old) (withdraws block)) (of_open self.old) }
+        ensures after { memory.new ≡ memory_after (outcome (B.meaning book.now) memory.old (of_open self.old) (withdraws block)) memory.old }
     {
         let part = self.check_withdraw(memory, book, block)?;
         self.bytes = cut(memory, self.bytes, part)?;
@@ -145,8 +145,8 @@ impl Open {
         form: u8,
         numbers: &[i32],
     ) -> Result<Open, Refusal>
-        ensures answer { result ≡ opened_by (started (meaning book.now) memory.old closing form numbers.now) }
-        ensures after { memory.new ≡ memory_after (started (meaning book.now) memory.old closing form numbers.now) memory.old }
+        ensures answer { result ≡ opened_by (started (B.meaning book.now) memory.old closing form numbers.now) }
+        ensures after { memory.new ≡ memory_after (started (B.meaning book.now) memory.old closing form numbers.now) memory.old }
     {
         let Some(close) = Form::of(u16::from(closing)) else {
             return Err(Refusal::NoSuchForm);
@@ -171,8 +171,8 @@ impl Open {
     }
 
     fn check_close<B: Book>(&self, memory: &[u8], book: &B) -> Result<(), Refusal>
-        ensures answer { result ≡ passes (outcome (meaning book.now) memory.now (of_open self.now) closes) }
-        ensures ready { OnOk result (Planned (meaning book.now) memory.now (of_open self.now) closes (end_of self.now.close) self.now.bytes self.now.bytes (suc self.now.blocks)) }
+        ensures answer { result ≡ passes (outcome (B.meaning book.now) memory.now (of_open self.now) closes) }
+        ensures ready { OnOk result (Planned (B.meaning book.now) memory.now (of_open self.now) closes (end_of self.now.close) self.now.bytes self.now.bytes (suc self.now.blocks)) }
     {
         self.check_held(memory, book)?;
         if is_crowded(memory, self.bytes, self.close) {
@@ -183,8 +183,8 @@ impl Open {
 
     /// Writes the end, or hands the product back.
     pub fn close<B: Book>(self, memory: &mut [u8], book: &B) -> Result<Closed, Kept<Open>>
-        ensures answer { result ≡ shut_by (outcome (meaning book.now) memory.old (of_open self) closes) self }
-        ensures after { memory.new ≡ memory_after (outcome (meaning book.now) memory.old (of_open self) closes) memory.old }
+        ensures answer { result ≡ shut_by (outcome (B.meaning book.now) memory.old (of_open self) closes) self }
+        ensures after { memory.new ≡ memory_after (outcome (B.meaning book.now) memory.old (of_open self) closes) memory.old }
     {
         if let Err(refusal) = self.check_close(memory, book) {
             return Err(Kept {
@@ -209,8 +209,8 @@ impl Open {
 impl Closed {
     /// Removes the end, or hands the product back.
     pub fn reopen<B: Book>(self, memory: &mut [u8], book: &B) -> Result<Open, Kept<Closed>>
-        ensures answer { result ≡ reopened_by (outcome (meaning book.now) memory.old (of_closed self) reopens) self }
-        ensures after { memory.new ≡ memory_after (outcome (meaning book.now) memory.old (of_closed self) reopens) memory.old }
+        ensures answer { result ≡ reopened_by (outcome (B.meaning book.now) memory.old (of_closed self) reopens) self }
+        ensures after { memory.new ≡ memory_after (outcome (B.meaning book.now) memory.old (of_closed self) reopens) memory.old }
     {
         if let Err(refusal) = self.check_held(memory, book) {
             return Err(Kept {

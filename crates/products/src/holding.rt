@@ -16,9 +16,9 @@ use receipt::walks::receive_closed;
 impl Closed {
     /// Receives the product in the first `count` bytes of the memory, judging every block.
     pub fn receive<B: Book>(memory: &[u8], count: usize, book: &B) -> Result<Closed, ReceiptFault>
-        ensures value { result ≡ received (meaning book.now) memory.now count }
+        ensures value { result ≡ received (B.meaning book.now) memory.now count }
         ensures within { IfOk result (λ p. p.bytes ≤ length memory.now) }
-        ensures written { IfOk result (AsWritten (meaning book.now) memory.now) }
+        ensures written { IfOk result (AsWritten (B.meaning book.now) memory.now) }
     {
         let found = receive_closed(memory, count, book)?;
         Ok(Closed {
@@ -30,7 +30,7 @@ impl Closed {
 
     /// Whether the memory holds this product: it is received again, with the same blocks and closing form.
     pub fn check_held<B: Book>(&self, memory: &[u8], book: &B) -> Result<(), Refusal>
-        ensures value { result ≡ is_held (meaning book.now) memory.now self.now }
+        ensures value { result ≡ is_held (B.meaning book.now) memory.now self.now }
         ensures within { OnOk result (self.now.bytes ≤ length memory.now) }
         ensures ended { OnOk result (length (end_of self.now.close) ≤ self.now.bytes) }
         ensures some { OnOk result (1 ≤ self.now.blocks) }
@@ -52,7 +52,7 @@ impl Closed {
 impl Open {
     /// Whether the memory holds this product: its bytes are read again as so many blocks, and no end.
     pub fn check_held<B: Book>(&self, memory: &[u8], book: &B) -> Result<(), Refusal>
-        ensures value { result ≡ passes (held_open (meaning book.now) memory.now self.now) }
+        ensures value { result ≡ passes (held_open (B.meaning book.now) memory.now self.now) }
         ensures within { OnOk result (self.now.bytes ≤ length memory.now) }
         ensures short { OnOk result (self.now.bytes ≤ most_bytes) }
         ensures few { OnOk result (self.now.blocks ≤ most_blocks) }

@@ -1,4 +1,6 @@
 // Products: received or started, mended in place, closed and reopened.
+#![tactic(auto)]
+
 pub mod calls;
 pub mod closed;
 pub mod holding;

@@ -78,9 +78,9 @@ pub(crate) fn put_block<B: Book>(
     requires inside { part.to ≤ used }
     requires within { used ≤ length memory.old }
     requires room { (used - (part.to - part.from)) + draft.size ≤ length memory.old }
-    requires fits { weighed (block_writing (meaning book.now) (drafts draft (asked given))) ≡ Ok draft.size }
+    requires fits { weighed (block_writing (B.meaning book.now) (drafts draft (asked given))) ≡ Ok draft.size }
     ensures answer { result ≡ Ok ((used - (part.to - part.from)) + draft.size) }
-    ensures after { memory.new ≡ rewritten (spliced part.from part.to (block_of (meaning book.now) (drafts draft (asked given.entry))) (take used memory.old)) used memory.old }
+    ensures after { memory.new ≡ rewritten (spliced part.from part.to (block_of (B.meaning book.now) (drafts draft (asked given.entry))) (take used memory.old)) used memory.old }
 {
     if !make_gap(memory, used, part, draft.size) {
         return Err(Refusal::NoRoom);

@@ -17,7 +17,7 @@ use Rattle.judging.specs.Faults.{located}
 use Rattle.judging.proofs.Judged.{Accepted}
 use Rattle.products.specs.declared.closed.Closed.{Closed}
 use Rattle.products.specs.Holding.{held, is_held}
-use Rattle.products.proofs.Held.{held_stands}
+use Rattle.products.proofs.Held.{held_stands, is_held_passes}
 use Rattle.receipt.specs.Closings.{block_record}
 use Rattle.receipt.proofs.Opening.{passed_by}
 use Rattle.receipt.proofs.Standing.{Stands}
@@ -57,6 +57,6 @@ found_is M k bs r s =
 pub told : (M : Meaning) (mem : List ℕ) (p : Closed) (k : ℕ) → ◌≡◌ {A = Result (Unit {0}) Refusal} (Ok tt) (is_held M mem p) → k < p.blocks
     → told_facts M mem p k ≡ blame NotHeld (found_block M k (take p.bytes mem))
 told M mem p k e l =
-    let q = passed_by (held M mem p) (Ok tt) tt e refl in
+    let q = passed_by (held M mem p) (Ok tt) tt (e ∙ is_held_passes M mem p) refl in
     let s = held_stands M mem p q.0 q.1 k l in
     go_on _ _ _ q.1 (pass _ _ _ (not_from_true _ (lt-ltb _ _ l)) (sym (not_blamed NotHeld _ (found_is M k (take p.bytes mem) (block_record q.0 k) s))))

@@ -29,7 +29,7 @@ pub struct Facts {
 
 /// The block behind so many others.
 fn find_block<B: Book>(bytes: &[u8], block: usize, book: &B) -> Result<Facts, ReceiptFault>
-    ensures { result ≡ found_block (meaning book.now) block bytes.now }
+    ensures { result ≡ found_block (B.meaning book.now) block bytes.now }
 {
     let rest = skip_blocks(bytes, block);
     let at = bytes.len() - rest.len();
@@ -57,7 +57,7 @@ pub fn block_facts<B: Book>(
     book: &B,
     block: usize,
 ) -> Result<Facts, Refusal>
-    ensures { result ≡ told_facts (meaning book.now) memory.now product.now block }
+    ensures { result ≡ told_facts (B.meaning book.now) memory.now product.now block }
 {
     product.check_held(memory, book)?;
     if block >= product.blocks() {

@@ -1,2 +1,4 @@
 // Reading: what a closed product tells of its blocks.
+#![tactic(auto)]
+
 pub mod facts;

@@ -10,7 +10,7 @@ use judging::faults::{BlockFault, Place, ReceiptFault};
 use judging::places::Phase;
 
 fn walk_open<B: Book>(bytes: &[u8], blocks: usize, book: &B) -> Result<(), ReceiptFault>
-    ensures { result ≡ passes (open_walk (meaning book.now) blocks 0 0 0 0 bytes.now) }
+    ensures { result ≡ passes (open_walk (B.meaning book.now) blocks 0 0 0 0 bytes.now) }
 {
     let mut at = 0;
     let mut last = Place { block: 0, at };
@@ -36,7 +36,7 @@ pub fn receive_open<B: Book>(
     blocks: usize,
     book: &B,
 ) -> Result<(), ReceiptFault>
-    ensures value { result ≡ passes (open_receipt (meaning book.now) memory.now count blocks) }
+    ensures value { result ≡ passes (open_receipt (B.meaning book.now) memory.now count blocks) }
     ensures within { OnOk result (count ≤ length memory.now) }
     ensures short { OnOk result (count ≤ most_bytes) }
     ensures few { OnOk result (blocks ≤ most_blocks) }

@@ -37,7 +37,7 @@ pub(crate) fn check_count(size: usize, count: usize) -> Result<(), BlockFault>
 }
 
 fn walk_closed<B: Book>(bytes: &[u8], book: &B) -> Result<Tally, ReceiptFault>
-    ensures { result ≡ tally_as (length bytes.now) 0 (closed_walk (meaning book.now) most_blocks 0 0 bytes.now) }
+    ensures { result ≡ tally_as (length bytes.now) 0 (closed_walk (B.meaning book.now) most_blocks 0 0 bytes.now) }
 {
     let mut at = 0;
     for block in 0..MOST_BLOCKS {
@@ -65,9 +65,9 @@ fn walk_closed<B: Book>(bytes: &[u8], book: &B) -> Result<Tally, ReceiptFault>
 
 /// Judges every block of the closed product in the first `count` bytes of the memory.
 pub fn receive_closed<B: Book>(memory: &[u8], count: usize, book: &B) -> Result<Tally, ReceiptFault>
-    ensures value { result ≡ tallied (meaning book.now) memory.now count }
+    ensures value { result ≡ tallied (B.meaning book.now) memory.now count }
     ensures within { IfOk result (λ t. t.bytes ≤ length memory.now) }
-    ensures written { OnOk result (ReadsWritten (meaning book.now) memory.now count) }
+    ensures written { OnOk result (ReadsWritten (B.meaning book.now) memory.now count) }
 {
     bytes_known(memory);
     check_count(memory.len(), count)?;

@@ -1,5 +1,7 @@
 // Receives each product of a table, and prints its name with its line or its refusal.
 // A line of the table is a name, a count of bytes or `all`, and then parts: hex digits, or `N*` and hex digits for N repetitions.
+#![tactic(auto)]
+
 use anyhow::{Context, anyhow};
 use four_kinds::FourKinds;
 use judging::faults::Refusal;

@@ -10,7 +10,7 @@ use Rattle.wire.proofs.Coding.{block_length}
 use Rattle.books.specs.declared.faults.FieldFault.{FieldFault}
 use Rattle.books.specs.Books.{Meaning, Lawful, Writing, Number, weighed, most_bytes}
 use Rattle.judging.specs.Places.{astray}
-use Rattle.records.specs.Records.{Record, Given, says, recorded, as_block, block_writing, block_with, block_of}
+use Rattle.records.specs.Records.{Record, Given, says, recorded, as_block, block_writing, block_with, bytes_in, block_of}
 use Rattle.records.specs.Drafts.{most_data, drafted, draft_of}
 
 -- the field that a list is written as
@@ -44,6 +44,14 @@ weighed_back M L r a n known e h =
       whole = whole;
       size = ap length whole ∙ block_length r.form r.mode r.submode w.0 even ∙ omega (arith, even, w.2);
     }
+
+-- its block is what is written
+block_is : (r : Record) (w : Writing) → block_with r w ≡ bytes_in (as_block r w)
+block_is r (Ok field) = refl
+block_is r (Err f) = refl
+
+pub block_written : (M : Meaning) (r : Record) → block_of M r ≡ bytes_in (block_writing M r)
+block_written M r = block_is r (M.writing r.mode r.submode r.numbers)
 
 -- what its block weighs
 pub block_weight : (M : Meaning) (r : Record) (n : ℕ) → Weighed M r n → weighed (block_writing M r) ≡ Ok (2 * fewest_pairs r.form + n)

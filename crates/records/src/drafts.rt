@@ -43,8 +43,8 @@ pub fn check_record<B: Book>(
     misfit: bool,
     book: &B,
 ) -> Result<Draft, Refusal>
-    ensures value { result ≡ draft_of (meaning book.now) (drafted (meaning book.now) block misfit (asked given.entry)) }
-    ensures fits { IfOk result (λ d. weighed (block_writing (meaning book.now) (drafts d (asked given.entry))) ≡ Ok d.size) }
+    ensures value { result ≡ draft_of (B.meaning book.now) (drafted (B.meaning book.now) block misfit (asked given.entry)) }
+    ensures fits { IfOk result (λ d. weighed (block_writing (B.meaning book.now) (drafts d (asked given.entry))) ≡ Ok d.size) }
     ensures short { IfOk result (λ d. d.size ≤ 2 * most_pairs) }
 {
     numbers_known(given.numbers);

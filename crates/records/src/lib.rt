@@ -1,3 +1,5 @@
 // Records: checked before they become blocks, and written as blocks.
+#![tactic(auto)]
+
 pub mod drafts;
 pub mod writing;

@@ -54,8 +54,8 @@ pub fn write_block<B: Book>(
     numbers: &[i32],
     book: &B,
 ) -> Result<(), FieldFault>
-    ensures answer { result ≡ answered (block_writing (meaning book.now) (says form mode submode numbers.now)) place.old }
-    ensures after { place.new ≡ placed (block_writing (meaning book.now) (says form mode submode numbers.now)) place.old }
+    ensures answer { result ≡ answered (block_writing (B.meaning book.now) (says form mode submode numbers.now)) place.old }
+    ensures after { place.new ≡ placed (block_writing (B.meaning book.now) (says form mode submode numbers.now)) place.old }
 {
     numbers_known(numbers);
     let weight = book.weigh(mode, submode, numbers)?;

@@ -33,8 +33,8 @@ pub enum NotBegun {
 /// Starts or receives a product.
 pub fn begin<B: Book>(beginning: &Beginning, memory: &mut [u8], book: &B) -> Result<State, NotBegun>
     ensures known { TypedBeginning memory.old beginning.now }
-    ensures answer { result ≡ begun (meaning book.now) memory.old beginning.now }
-    ensures after { memory.new ≡ memory_begun (meaning book.now) memory.old beginning.now }
+    ensures answer { result ≡ begun (B.meaning book.now) memory.old beginning.now }
+    ensures after { memory.new ≡ memory_begun (B.meaning book.now) memory.old beginning.now }
 {
     match beginning {
         Beginning::Start {

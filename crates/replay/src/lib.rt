@@ -1,4 +1,6 @@
 // A product's life played from a list of steps.
+#![tactic(auto)]
+
 pub mod beginning;
 pub mod playing;
 pub mod replaying;

@@ -30,7 +30,7 @@ fn told_of(answer: Result<(), Refusal>, tally: Tally) -> Told
 
 fn play_open<B: Book>(mut product: Open, step: &Step, memory: &mut [u8], book: &B) -> (State, Told)
     ensures known { TypedOpen step.now }
-    ensures scene { ◌≡◌ {A = Scene} (record { told = result.1; product = product_in result.0; memory = memory.new; put = [] }) (played (meaning book.now) 0 (of_open product) memory.old step.now) }
+    ensures scene { ◌≡◌ {A = Scene} (record { told = result.1; product = product_in result.0; memory = memory.new; put = [] }) (played (B.meaning book.now) 0 (of_open product) memory.old step.now) }
 {
     match step {
         Step::Add {
@@ -79,7 +79,7 @@ fn play_open<B: Book>(mut product: Open, step: &Step, memory: &mut [u8], book: &
 }
 
 fn close_step<B: Book>(product: Open, memory: &mut [u8], book: &B) -> (State, Told)
-    ensures { ◌≡◌ {A = Scene} (record { told = result.1; product = product_in result.0; memory = memory.new; put = [] }) (calls (meaning book.now) (of_open product) memory.old closes) }
+    ensures { ◌≡◌ {A = Scene} (record { told = result.1; product = product_in result.0; memory = memory.new; put = [] }) (calls (B.meaning book.now) (of_open product) memory.old closes) }
 {
     match product.close(memory, book) {
         Ok(closed) => {
@@ -94,7 +94,7 @@ fn close_step<B: Book>(product: Open, memory: &mut [u8], book: &B) -> (State, To
 }
 
 fn reopen_step<B: Book>(product: Closed, memory: &mut [u8], book: &B) -> (State, Told)
-    ensures { ◌≡◌ {A = Scene} (record { told = result.1; product = product_in result.0; memory = memory.new; put = [] }) (calls (meaning book.now) (of_closed product) memory.old reopens) }
+    ensures { ◌≡◌ {A = Scene} (record { told = result.1; product = product_in result.0; memory = memory.new; put = [] }) (calls (B.meaning book.now) (of_closed product) memory.old reopens) }
 {
     match product.reopen(memory, book) {
         Ok(open) => {
@@ -115,10 +115,10 @@ fn play_closed<B: Book, S: Sink>(
     book: &B,
     sink: &mut S,
 ) -> (State, Told)
-    ensures told { result.1 ≡ (played (meaning book.now) (S.Sink.room sink.old) (of_closed product) memory.old step.now).told }
-    ensures product { product_in result.0 ≡ (played (meaning book.now) (S.Sink.room sink.old) (of_closed product) memory.old step.now).product }
-    ensures after { memory.new ≡ (played (meaning book.now) (S.Sink.room sink.old) (of_closed product) memory.old step.now).memory }
-    ensures sunk { Sunk S.Sink.taken S.Sink.room S.Sink.wrote sink.old (played (meaning book.now) (S.Sink.room sink.old) (of_closed product) memory.old step.now).put sink.new result.1 }
+    ensures told { result.1 ≡ (played (B.meaning book.now) (S.Sink.room sink.old) (of_closed product) memory.old step.now).told }
+    ensures product { product_in result.0 ≡ (played (B.meaning book.now) (S.Sink.room sink.old) (of_closed product) memory.old step.now).product }
+    ensures after { memory.new ≡ (played (B.meaning book.now) (S.Sink.room sink.old) (of_closed product) memory.old step.now).memory }
+    ensures sunk { Sunk S.Sink.taken S.Sink.room S.Sink.wrote sink.old (played (B.meaning book.now) (S.Sink.room sink.old) (of_closed product) memory.old step.now).put sink.new result.1 }
 {
     match step {
         Step::Reopen => reopen_step(product, memory, book),
@@ -139,10 +139,10 @@ pub fn play<B: Book, S: Sink>(
     sink: &mut S,
 ) -> (State, Told)
     ensures known { TypedIn (product_in state).phase step.now }
-    ensures told { result.1 ≡ (played (meaning book.now) (S.Sink.room sink.old) (product_in state) memory.old step.now).told }
-    ensures product { product_in result.0 ≡ (played (meaning book.now) (S.Sink.room sink.old) (product_in state) memory.old step.now).product }
-    ensures after { memory.new ≡ (played (meaning book.now) (S.Sink.room sink.old) (product_in state) memory.old step.now).memory }
-    ensures sunk { Sunk S.Sink.taken S.Sink.room S.Sink.wrote sink.old (played (meaning book.now) (S.Sink.room sink.old) (product_in state) memory.old step.now).put sink.new result.1 }
+    ensures told { result.1 ≡ (played (B.meaning book.now) (S.Sink.room sink.old) (product_in state) memory.old step.now).told }
+    ensures product { product_in result.0 ≡ (played (B.meaning book.now) (S.Sink.room sink.old) (product_in state) memory.old step.now).product }
+    ensures after { memory.new ≡ (played (B.meaning book.now) (S.Sink.room sink.old) (product_in state) memory.old step.now).memory }
+    ensures sunk { Sunk S.Sink.taken S.Sink.room S.Sink.wrote sink.old (played (B.meaning book.now) (S.Sink.room sink.old) (product_in state) memory.old step.now).put sink.new result.1 }
 {
     match state {
         State::Opened(product) => play_open(product, step, memory, book),

@@ -19,11 +19,11 @@ fn play_all<B: Book, S: Sink>(
     book: &B,
     sink: &mut S,
 ) -> State
-    ensures told { told.new ≡ places_after (run_told (meaning book.now) (S.Sink.room sink.old) (product_in start) memory.old steps.now told.old) told.old }
-    ensures product { product_in result ≡ (run_told (meaning book.now) (S.Sink.room sink.old) (product_in start) memory.old steps.now told.old).product }
-    ensures after { memory.new ≡ (run_told (meaning book.now) (S.Sink.room sink.old) (product_in start) memory.old steps.now told.old).memory }
-    ensures took { Took S.Sink.taken S.Sink.room S.Sink.wrote sink.old (run_told (meaning book.now) (S.Sink.room sink.old) (product_in start) memory.old steps.now told.old).put sink.new }
-    ensures lived { Lived S.Sink.taken S.Sink.room (meaning book.now) sink.old (product_in start) memory.old sink.old → Lived S.Sink.taken S.Sink.room (meaning book.now) sink.old (product_in result) memory.new sink.new }
+    ensures told { told.new ≡ places_after (run_told (B.meaning book.now) (S.Sink.room sink.old) (product_in start) memory.old steps.now told.old) told.old }
+    ensures product { product_in result ≡ (run_told (B.meaning book.now) (S.Sink.room sink.old) (product_in start) memory.old steps.now told.old).product }
+    ensures after { memory.new ≡ (run_told (B.meaning book.now) (S.Sink.room sink.old) (product_in start) memory.old steps.now told.old).memory }
+    ensures took { Took S.Sink.taken S.Sink.room S.Sink.wrote sink.old (run_told (B.meaning book.now) (S.Sink.room sink.old) (product_in start) memory.old steps.now told.old).put sink.new }
+    ensures lived { Lived S.Sink.taken S.Sink.room (B.meaning book.now) sink.old (product_in start) memory.old sink.old → Lived S.Sink.taken S.Sink.room (B.meaning book.now) sink.old (product_in result) memory.new sink.new }
 {
     let mut state = start;
     let _ = sink.space();
@@ -45,11 +45,11 @@ pub fn replay<B: Book, S: Sink>(
     book: &B,
     sink: &mut S,
 ) -> Result<State, NotBegun>
-    ensures answer { result ≡ ends_in (replayed (meaning book.now) (S.Sink.room sink.old) memory.old beginning.now steps.now told.old) }
-    ensures after { memory.new ≡ ends_with (replayed (meaning book.now) (S.Sink.room sink.old) memory.old beginning.now steps.now told.old) memory.old }
-    ensures told { told.new ≡ tells (replayed (meaning book.now) (S.Sink.room sink.old) memory.old beginning.now steps.now told.old) told.old }
-    ensures sunk { Sank S.Sink.taken S.Sink.room S.Sink.wrote (replayed (meaning book.now) (S.Sink.room sink.old) memory.old beginning.now steps.now told.old) sink.old sink.new }
-    ensures lived { IfOk result (λ state. Lived S.Sink.taken S.Sink.room (meaning book.now) sink.old (product_in state) memory.new sink.new) }
+    ensures answer { result ≡ ends_in (replayed (B.meaning book.now) (S.Sink.room sink.old) memory.old beginning.now steps.now told.old) }
+    ensures after { memory.new ≡ ends_with (replayed (B.meaning book.now) (S.Sink.room sink.old) memory.old beginning.now steps.now told.old) memory.old }
+    ensures told { told.new ≡ tells (replayed (B.meaning book.now) (S.Sink.room sink.old) memory.old beginning.now steps.now told.old) told.old }
+    ensures sunk { Sank S.Sink.taken S.Sink.room S.Sink.wrote (replayed (B.meaning book.now) (S.Sink.room sink.old) memory.old beginning.now steps.now told.old) sink.old sink.new }
+    ensures lived { IfOk result (λ state. Lived S.Sink.taken S.Sink.room (B.meaning book.now) sink.old (product_in state) memory.new sink.new) }
 {
     let state = begin(beginning, memory, book)?;
     Ok(play_all(state, steps, told, memory, book, sink))

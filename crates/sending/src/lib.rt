@@ -1,4 +1,6 @@
 // The sending of a closed product.
+#![tactic(auto)]
+
 ghost use Rattle.sending.specs.Sending.{pairs_in, sending};
 ghost use Rattle.sinks.specs.Sinks.{Took};
 ghost use Rattle.std.specs.Prelude.{◌≡◌, MatchResult};
@@ -16,7 +18,7 @@ pub fn send<B: Book, S: Sink>(
     book: &B,
     sink: &mut S,
 ) -> Result<usize, Refusal>
-    ensures answer { result ≡ sending (meaning book.now) memory.now product.now (S.Sink.room sink.old) }
+    ensures answer { result ≡ sending (B.meaning book.now) memory.now product.now (S.Sink.room sink.old) }
     ensures after { MatchResult result (λ _. Took S.Sink.taken S.Sink.room S.Sink.wrote sink.old (pairs_in memory.now product.now) sink.new) (λ _. sink.new ≡ sink.old) }
 {
     product.check_held(memory, book)?;

@@ -65,7 +65,7 @@ module _ (w : ℕ) (cell : ℕ → List ℕ) (len : (p : ℕ) → length (cell p
   length_joined (p ∷ ps) =
       length-append (cell p) (flat_map cell ps) ∙ omega (arith, len p, length_joined ps, mul-suc w (length ps))
 
-  pub wrote_none : (a : Bor (List ℕ)) (n : ℕ) → Wrote w cell a n [] a n
+  pub wrote_none : (a : MutBor (List ℕ)) (n : ℕ) → Wrote w cell a n [] a n
   wrote_none a n = record { lent = refl; counted = omega arith; within = λ h. h; bytes = λ h. sym (over_none (w * n) a.now) }
 
   wrote_more : (a b d : MutBor (List ℕ)) (n k p : ℕ) (ps : List ℕ) → Wrote w cell a n ps b k → w * k + w ≤ length b.now → d.ghost_name ≡ b.ghost_name → d.now ≡ over (w * k) (cell p) b.now → Wrote w cell a n (ps ++ (p ∷ [])) d (k + 1)

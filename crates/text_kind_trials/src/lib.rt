@@ -1,4 +1,6 @@
 // The two kinds of text, on tables of cases.
+#![tactic(auto)]
+
 #[cfg(test)]
 mod tests {
     use books::faults::{FieldFault, Rule};

@@ -1,4 +1,6 @@
 // Lines as the programs print them, in memory just as long as the line and one byte short of it.
+#![tactic(auto)]
+
 #[cfg(test)]
 mod tests {
     use std::process::Abort;

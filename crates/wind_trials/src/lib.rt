@@ -1,4 +1,6 @@
 // Plotted winds, and two's complement, on tables of cases.
+#![tactic(auto)]
+
 #[cfg(test)]
 mod tests {
     use books::faults::{FieldFault, Rule};

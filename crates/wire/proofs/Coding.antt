@@ -1,20 +1,20 @@
 -- One block: what is written is read back, and what is read was written so.
-use Rattle.std.proofs.Common.{◌≡◌, ℕ, zero, suc, ◌+◌, ◌-◌, ◌*◌, ◌/◌, ◌%◌, ◌<◌, ◌≤◌, Bool, true, false, not, ◌||◌, eqb, ltb, List, [], ◌∷◌, ◌++◌, length, get_or, take, drop, Ok, Err, Result, sym, refl, ap, ◌∙◌, ap₂, arith}
+use Rattle.std.proofs.Common.{◌≡◌, ℕ, zero, suc, ◌+◌, ◌-◌, ◌*◌, ◌/◌, ◌%◌, ◌≤◌, false, ◌||◌, ltb, List, [], ◌∷◌, ◌++◌, length, get_or, take, drop, Ok, Err, Result, sym, refl, ap, ◌∙◌, ap₂, arith}
 use Rattle.std.proofs.lemmas.List.{append_assoc, length-append, take_at, drop_at, take-append-drop, length-take-le, length-drop}
-use Rattle.std.proofs.lemmas.Bool.{ltb-false, le-ltb, eqb-true, eq-eqb, or_parts, or_from, not_from_true, not-false}
+use Rattle.std.proofs.lemmas.Bool.{le-ltb, eqb-true, eq-eqb, or_from, not_from_true, not-false}
 use Rattle.std.proofs.ByRecursion.{All-drop}
 use Rattle.wire.specs.declared.blocks.Head.{Head}
 use Rattle.wire.specs.declared.blocks.Malformed.{Malformed}
 use Rattle.wire.specs.declared.blocks.Malformed.TheVariants.{Mode}
 use Rattle.wire.specs.declared.forms.Form.{Form}
 use Rattle.wire.specs.declared.forms.Form.TheVariants.{Checksummed, LengthOnly}
-use Rattle.wire.specs.Blocks.{Sized, Framed, pairs_of, front, checksum, block_bytes, first_pair, flagged, head_in, size, framed_in, framed, unbalanced, sound, read_head, field_end, field_of, rest_of, most_pairs, most_mode}
+use Rattle.wire.specs.Blocks.{Sized, Framed, pairs_of, front, checksum, block_bytes, first_pair, flagged, head_in, size, framed_in, framed, unbalanced, sound, read_head, most_pairs, most_mode}
 use Rattle.wire.specs.Codec.{Decoded, Encoded, Codec, head_of}
 use Rattle.wire.specs.Forms.{form_number, checksum_pairs, fewest_pairs}
-use Rattle.wire.specs.Pairs.{Byte, Bytes, pair, pair_bytes, pairs, total, pair_sum}
+use Rattle.wire.specs.Pairs.{Byte, Bytes, pair, pairs, total, pair_sum}
 use Rattle.wire.specs.Rows.{extent}
 use Rattle.wire.specs.Steps.{◌>>=◌, refuse}
-use Rattle.wire.proofs.Passing.{pass, go_on, passed, allowed, went_on, same_ok}
+use Rattle.wire.proofs.Passing.{pass, go_on, same_ok}
 use Rattle.wire.proofs.Summing.{total_append}
 
 -- ---- forms as numbers

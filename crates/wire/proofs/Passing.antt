@@ -1,5 +1,5 @@
 -- Going through checks that may refuse, forwards and backwards.
-use Rattle.std.proofs.Common.{◌≡◌, ℕ, Bool, true, false, ◌||◌, Ok, Err, Result, sym, refl, ap, ◌∙◌, arith}
+use Rattle.std.proofs.Common.{◌≡◌, ℕ, Bool, true, false, Ok, Err, Result, sym, refl, ◌∙◌, arith}
 use Rattle.wire.specs.Steps.{◌>>=◌, refuse, blame}
 
 pub pass : {B E : Type 0} (b : Bool) (e : E) (k : Unit {0} → Result B E) {x : Result B E} → b ≡ false → k tt ≡ x → (refuse b e >>= k) ≡ x

@@ -1,5 +1,5 @@
 -- The class of a mode and a submode.
-use Rattle.std.specs.Prelude.{ℕ, Bool, true, false, cond, ◌&&◌, ◌||◌, List, [], ◌∷◌, codes, ◌==◌}
+use Rattle.std.specs.Prelude.{ℕ, Bool, false, cond, ◌&&◌, ◌||◌, List, [], ◌∷◌, codes, ◌==◌}
 use Rattle.wire.specs.declared.classes.Class.{Class}
 use Rattle.wire.specs.declared.classes.Class.TheVariants.{Control, Definition, Description, Data, Unknown}
 

@@ -1,4 +1,6 @@
 // The wire format: pairs of bytes, the two forms of a block, its head, LENGTH and CHECKSUM, and the classes of blocks.
+#![tactic(auto)]
+
 pub mod blocks;
 pub mod classes;
 pub mod forms;

@@ -3,7 +3,7 @@ use Rattle.std.proofs.lemmas.Int.{to_z-of_z}
 use Rattle.books.specs.Words.{within}
 use Rattle.books.proofs.Firsts.{first_found, first_more, below_zero, above_top, inside}
 use Rattle.books.proofs.scan.first_outside.Goals as goal
-use Rattle.books.proofs.scan.first_outside.Goals.{then_number_lt0_via_then_number_lt0, then_number_lt0_via_else_number_lt0+then_number_from}
+use Rattle.books.proofs.scan.first_outside.Goals.{then-number-lt0-via-then-number-lt0, then-number-lt0-via-else-number-lt0+then-number-from}
 
 pub returns-then-number-lt0 : goal.returns-then-number-lt0
 returns-then-number-lt0 c =
@@ -11,9 +11,9 @@ returns-then-number-lt0 c =
     let f : SFits w32 z = search rules in
     let p = within c.args.top in
     elim c.then-number-lt0.branch [
-      | then_number_lt0_via_then_number_lt0 w ↦ let t = simp to_z-of_z at w.if-number-lt0.true in
+      | then-number-lt0-via-then-number-lt0 w ↦ let t = simp to_z-of_z at w.if-number-lt0.true in
           first_found p c.args.list.now c.loop-index.index (pos 0) c.loop-index-test.true c.loop-index.invariant (below_zero c.args.top z t)
-      | then_number_lt0_via_else_number_lt0+then_number_from w ↦ let g : SFits w32 w.from.result = search rules in
+      | then-number-lt0-via-else-number-lt0+then-number-from w ↦ let g : SFits w32 w.from.result = search rules in
           let t = simp to_z-of_z at w.if-number-from.true in
           first_found p c.args.list.now c.loop-index.index (pos 0) c.loop-index-test.true c.loop-index.invariant (above_top c.args.top w.from.result z w.from.ensures t)
     ]

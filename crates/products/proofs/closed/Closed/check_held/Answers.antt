@@ -1,10 +1,10 @@
-use Rattle.std.proofs.Common.{◌≡◌, Ok, Result, refl, arith, rules}
+use Rattle.std.proofs.Common.{◌≡◌, Ok, Result, refl, ◌∙◌, arith, rules}
 use Rattle.judging.specs.declared.faults.Refusal.{Refusal}
 use Rattle.products.specs.Holding.{held, is_held}
-use Rattle.products.proofs.Held.{end_length, is_held_within, held_back, held_ended}
+use Rattle.products.proofs.Held.{end_length, is_held_within, is_held_passes, held_back, held_ended}
 use Rattle.receipt.proofs.Opening.{passed_by}
 use Rattle.products.proofs.closed.Closed.check_held.Goals as goal
-use Rattle.products.proofs.closed.Closed.check_held.Goals.{then_found_self_via_then_found_self, then_found_self_via_else_found_self+then_number}
+use Rattle.products.proofs.closed.Closed.check_held.Goals.{then-found-self-via-then-found-self, then-found-self-via-else-found-self+then-number}
 
 pub returns-in_err-found : goal.returns-in_err-found
 unfolding held
@@ -14,8 +14,8 @@ pub returns-then-found-self : goal.returns-then-found-self
 unfolding held
 returns-then-found-self g c =
     elim c.then-found-self.branch [
-      | then_found_self_via_then_found_self w ↦ search (rules, end_length)
-      | then_found_self_via_else_found_self+then_number w ↦ search (rules, end_length)
+      | then-found-self-via-then-found-self w ↦ search (rules, end_length)
+      | then-found-self-via-else-found-self+then-number w ↦ search (rules, end_length)
     ]
 
 pub returns : goal.returns
@@ -24,7 +24,7 @@ returns g c =
     let M = g.B.Book.meaning c.args.book.now in
     let value : ◌≡◌ {A = Result (Unit {0}) Refusal} (Ok tt) (is_held M c.args.memory.now c.args.self.now) = search rules in
     let p = c.args.self.now in
-    let x = passed_by (held M c.args.memory.now p) (Ok tt) tt value refl in
+    let x = passed_by (held M c.args.memory.now p) (Ok tt) tt (value ∙ is_held_passes M c.args.memory.now p) refl in
     record {
       value = value;
       within = is_held_within M c.args.memory.now p (Ok tt) value;

@@ -12,7 +12,7 @@ short b n h l =
 pub digits-requires : goal.digits-requires
 digits-requires c =
     let s = short c.args.base c.args.n (omega arith) (omega arith) in
-    (omega arith, omega arith, omega arith)
+    record { le_base = omega arith; base_bound = omega arith; n_bound = omega arith }
 
 pub returns : goal.returns
 returns c =
