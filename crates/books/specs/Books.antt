@@ -1,7 +1,7 @@
 -- What a book means, its laws, and what its four questions answer.
 use Rattle.std.specs.Prelude.{◌≡◌, ℕ, ◌%◌, ◌≤◌, cond, List, length, ℤ, None, Ok, Err, Option, Result, FitsSigned, ◌==◌}
 use Rattle.std.specs.Int.{w32}
-use Rattle.std.specs.List.{slice_get, AllByRecursion as All}
+use Rattle.std.specs.List.{slice_get, AllByRecursion}
 use Rattle.wire.specs.Pairs.{Bytes}
 use Rattle.books.specs.declared.faults.FieldFault.{FieldFault}
 use Rattle.books.specs.declared.faults.Rule.TheVariants.{DataLength}
@@ -31,11 +31,11 @@ pub record Meaning : Type 0 where
 -- The laws of a way to read fields and a way to write lists.
 pub record Agree (read : List ℕ → Reading) (write : List ℤ → Writing) : Type 0 where
   -- a list is written as a field exactly when that field reads as the list
-  pub written : (list : List ℤ) (field : List ℕ) → All Number list → write list ≡ Ok field → read field ≡ Ok list
+  pub written : (list : List ℤ) (field : List ℕ) → AllByRecursion Number list → write list ≡ Ok field → read field ≡ Ok list
   pub reads : (field : List ℕ) (list : List ℤ) → Bytes field → read field ≡ Ok list → write list ≡ Ok field
   -- what is written is bytes, and what is read fits 32 bits
-  pub bytes : (list : List ℤ) (field : List ℕ) → All Number list → write list ≡ Ok field → Bytes field
-  pub numbers : (field : List ℕ) (list : List ℤ) → Bytes field → read field ≡ Ok list → All Number list
+  pub bytes : (list : List ℤ) (field : List ℕ) → AllByRecursion Number list → write list ≡ Ok field → Bytes field
+  pub numbers : (field : List ℕ) (list : List ℤ) → Bytes field → read field ≡ Ok list → AllByRecursion Number list
   -- a field that is read has whole pairs, not too many bytes, and no more numbers than a field may have bytes
   pub even : (field : List ℕ) (list : List ℤ) → read field ≡ Ok list → length field % 2 ≡ 0
   pub short : (field : List ℕ) (list : List ℤ) → read field ≡ Ok list → length field ≤ most_bytes

@@ -1,7 +1,7 @@
 -- Proofs, and no definitions: what it tells that a check or a whole list passes.
 use Rattle.std.specs.Prelude.{◌≡◌, ℕ, suc, ◌+◌, ◌≤◌, Bool, true, false, cond, ltb, List, [], ◌∷◌, length, Some, None, Ok, Option, Result, nat_lt, refl}
 use Rattle.std.proofs.Common.{⊎_elim, arith}
-use Rattle.std.specs.List.{prefix_len, AllByRecursion as All}
+use Rattle.std.specs.List.{prefix_len, AllByRecursion}
 use Rattle.std.proofs.lemmas.Bool.{cases_Bool, ltb-false, le-ltb}
 use Rattle.wire.specs.Steps.{◌>>=◌}
 use Rattle.books.specs.declared.faults.Rule.{Rule}
@@ -15,7 +15,7 @@ passed_refuse_at rule (Some i) k v h = let z : ◌≡◌ {A = ℕ} 0 1 = cc in a
 
 -- ---- no element fails exactly when all pass
 module _ {X : Type 0} (p : X → Bool) where
-  all_from_leading : (xs : List X) → length xs ≤ prefix_len p xs → All (λ x. p x ≡ true) xs
+  all_from_leading : (xs : List X) → length xs ≤ prefix_len p xs → AllByRecursion (λ x. p x ≡ true) xs
   all_from_leading [] h = tt
   all_from_leading (x ∷ xs) h =
       let k : suc (length xs) ≤ cond (p x) (1 + prefix_len p xs) 0 = h in
@@ -24,16 +24,16 @@ module _ {X : Type 0} (p : X → Bool) where
       (λ e. let m : suc (length xs) ≤ 0 = rw e at k in absurd (omega arith))
       (cases_Bool (p x))
 
-  leading_from_all : (xs : List X) → All (λ x. p x ≡ true) xs → prefix_len p xs ≡ length xs
+  leading_from_all : (xs : List X) → AllByRecursion (λ x. p x ≡ true) xs → prefix_len p xs ≡ length xs
   leading_from_all [] h = refl
   leading_from_all (x ∷ xs) h = let e : p x ≡ true = h.0 in rw e (omega (arith, leading_from_all xs h.1))
 
-  pub all_from_none : (xs : List X) → first_fail p xs ≡ None → All (λ x. p x ≡ true) xs
+  pub all_from_none : (xs : List X) → first_fail p xs ≡ None → AllByRecursion (λ x. p x ≡ true) xs
   all_from_none xs h =
       ⊎_elim
       (λ e. let m : cond true (Some (prefix_len p xs)) None ≡ None = rw e at h in let z : ◌≡◌ {A = ℕ} 0 1 = cc in absurd (omega arith))
       (λ e. all_from_leading xs (ltb-false _ _ e))
       (cases_Bool (nat_lt (prefix_len p xs) (length xs)))
 
-  pub none_from_all : (xs : List X) → All (λ x. p x ≡ true) xs → first_fail p xs ≡ None
+  pub none_from_all : (xs : List X) → AllByRecursion (λ x. p x ≡ true) xs → first_fail p xs ≡ None
   none_from_all xs h = let e : ltb (prefix_len p xs) (length xs) ≡ false = le-ltb _ _ (omega (arith, leading_from_all xs h)) in rw e

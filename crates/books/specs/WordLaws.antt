@@ -1,7 +1,7 @@
 -- Proofs, and no definitions: the plain-word book keeps the laws of a book.
 use Rattle.std.specs.Prelude.{◌≡◌, ℕ, ◌+◌, ◌*◌, ◌/◌, ◌%◌, ◌<◌, ◌≤◌, true, false, not, ltb, List, [], ◌∷◌, length, ℤ, pos, negsuc, None, Ok, ◌==◌, nat_lt, unsigned_abs, refl}
 use Rattle.std.proofs.Common.{ap, ◌∙◌, arith}
-use Rattle.std.specs.List.{AllByRecursion as All}
+use Rattle.std.specs.List.{AllByRecursion}
 use Rattle.std.proofs.lemmas.Bool.{leb-true, le-leb, eqb-true, eq-eqb, ltb-false, le-ltb, or_parts, or_from, not-false, not_from_true}
 use Rattle.std.proofs.ByRecursion.{All-weaker}
 use Rattle.std.proofs.lemmas.List.{length-map}
@@ -35,7 +35,7 @@ number_within : (z : ℤ) → within top_word z ≡ true → Number z
 number_within (pos n) h = record { sfits = omega (arith, leb-true n top_word h) }
 number_within (negsuc n) h = let z : ◌≡◌ {A = ℕ} 0 1 = cc in absurd (omega arith)
 
-words_of_bytes : (zs : List ℤ) → All (λ z. within top_word z ≡ true) zs → words (word_bytes zs) ≡ zs
+words_of_bytes : (zs : List ℤ) → AllByRecursion (λ z. within top_word z ≡ true) zs → words (word_bytes zs) ≡ zs
 words_of_bytes [] h = refl
 words_of_bytes (pos n ∷ zs) h =
     let e : 256 * (n / 256) + n % 256 ≡ n = omega arith in
@@ -51,7 +51,7 @@ bytes_of_words (a ∷ b ∷ bs) e h =
     let low : (256 * a + b) % 256 ≡ b = omega arith in
     rw (high, low, bytes_of_words bs (omega arith) h.1.1)
 
-words_within : (bs : List ℕ) → Bytes bs → All (λ z. within top_word z ≡ true) (words bs)
+words_within : (bs : List ℕ) → Bytes bs → AllByRecursion (λ z. within top_word z ≡ true) (words bs)
 words_within [] h = tt
 words_within (a ∷ []) h = tt
 words_within (a ∷ b ∷ bs) h =
@@ -59,7 +59,7 @@ words_within (a ∷ b ∷ bs) h =
     let k : b < 256 = h.1.0 in
     (le-leb _ _ (omega arith), words_within bs h.1.1)
 
-word_bytes_fit : (zs : List ℤ) → All (λ z. within top_word z ≡ true) zs → Bytes (word_bytes zs)
+word_bytes_fit : (zs : List ℤ) → AllByRecursion (λ z. within top_word z ≡ true) zs → Bytes (word_bytes zs)
 word_bytes_fit [] h = tt
 word_bytes_fit (z ∷ zs) h = let k = within_top top_word z h.0 in (omega arith, (omega arith, word_bytes_fit zs h.1))
 
@@ -76,14 +76,14 @@ words_read field e l =
     let t : bad_length (length field) ≡ false = or_from _ _ (not_from_true _ (eq-eqb (length field % 2) 0 e)) (le-ltb most_bytes (length field) l) in
     rw t
 
-pub written_words : (list : List ℤ) (field : List ℕ) → word_writing list ≡ Ok field → (length list ≤ most_words) × All (λ z. within top_word z ≡ true) list × (word_bytes list ≡ field)
+pub written_words : (list : List ℤ) (field : List ℕ) → word_writing list ≡ Ok field → (length list ≤ most_words) × AllByRecursion (λ z. within top_word z ≡ true) list × (word_bytes list ≡ field)
 written_words list field h =
     let k = passed (nat_lt most_words (length list)) (fault_at ListLength (length list)) _ h in
     let m = passed_refuse_at NumberRange (first_fail (within top_word) list) (λ _. Ok (word_bytes list)) field k.1 in
     let o = m.1 in
     (ltb-false _ _ k.0, all_from_none (within top_word) list m.0, cc)
 
-pub words_written : (list : List ℤ) → length list ≤ most_words → All (λ z. within top_word z ≡ true) list → word_writing list ≡ Ok (word_bytes list)
+pub words_written : (list : List ℤ) → length list ≤ most_words → AllByRecursion (λ z. within top_word z ≡ true) list → word_writing list ≡ Ok (word_bytes list)
 words_written list l a =
     let t : ltb most_words (length list) ≡ false = le-ltb _ _ l in
     let n : first_fail (within top_word) list ≡ None = none_from_all (within top_word) list a in

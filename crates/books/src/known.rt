@@ -1,10 +1,10 @@
 // What the type of a slice says of its elements: proofs need it, and the call changes nothing.
 ghost use Rattle.books.specs.Books.{Number};
-ghost use Rattle.std.specs.List.{AllByRecursion as All};
+ghost use Rattle.std.specs.List.{AllByRecursion};
 
 /// Every number of a slice fits 32 bits.
 pub fn numbers_known(list: &[i32])
-    ensures { All Number list.now }
+    ensures { AllByRecursion Number list.now }
 {
     for number in list {
         let _known = *number;

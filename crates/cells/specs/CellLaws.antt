@@ -1,7 +1,7 @@
 -- Proofs, and no definitions: rows of sound cells are sound.
 use Rattle.std.specs.Prelude.{◌≡◌, ℕ, zero, suc, ◌+◌, ◌*◌, List, [], ◌∷◌, ◌++◌, length, take, drop, Ok, refl}
 use Rattle.std.proofs.Common.{ap, zero-mul, suc-mul, arith}
-use Rattle.std.specs.List.{AllByRecursion as All}
+use Rattle.std.specs.List.{AllByRecursion}
 use Rattle.std.proofs.ByRecursion.{All-append, All-take, All-drop}
 use Rattle.std.proofs.lemmas.List.{length-append, length-take-le, length-drop, take_at, drop_at, take-append-drop, nil_from_length}
 use Rattle.wire.specs.Pairs.{Byte}
@@ -79,7 +79,7 @@ then_sound c d s t = record {
 }
 
 -- a row is sound where each of its cells is
-pub row_sound : (cs : List Cell) → All Sound cs → Sound (row cs)
+pub row_sound : (cs : List Cell) → AllByRecursion Sound cs → Sound (row cs)
 row_sound [] s = empty_sound
 row_sound (c ∷ cs) s = then_sound c (row cs) s.0 (row_sound cs s.1)
 

@@ -1,6 +1,6 @@
 -- Cells: the parts of a data field that has a fixed layout.
 use Rattle.std.specs.Prelude.{◌≡◌, ℕ, zero, suc, ◌+◌, ◌*◌, ◌/◌, ◌%◌, ◌<◌, cond, List, [], ◌∷◌, ◌++◌, length, take, drop, ℤ, pos, Some, None, Ok, Err, Option, Result, ◌==◌, nat_le, slice_index, slice_index_or, unsigned_abs}
-use Rattle.std.specs.List.{AllByRecursion as All}
+use Rattle.std.specs.List.{AllByRecursion}
 use Rattle.wire.specs.Pairs.{Bytes, pair, pair_bytes}
 use Rattle.wire.specs.Steps.{◌>>=◌}
 use Rattle.books.specs.declared.faults.Rule.{Rule}
@@ -27,7 +27,7 @@ pub record Cell : Type 0 where
 -- What is written reads back, and what is read is written so, wherever the cell stands.
 pub record Sound (c : Cell) : Type 0 where
   pub written : (at : ℕ) (list : List ℤ) (field : List ℕ) → length list ≡ c.count → c.writing at list ≡ Ok field → (length field ≡ c.size) × Bytes field × ((from : ℕ) → c.reading from field ≡ Ok list)
-  pub reads : (at : ℕ) (field : List ℕ) (list : List ℤ) → length field ≡ c.size → Bytes field → c.reading at field ≡ Ok list → All Number list × ((from : ℕ) → c.writing from list ≡ Ok field)
+  pub reads : (at : ℕ) (field : List ℕ) (list : List ℤ) → length field ≡ c.size → Bytes field → c.reading at field ≡ Ok list → AllByRecursion Number list × ((from : ℕ) → c.writing from list ≡ Ok field)
   pub counted : (at : ℕ) (field : List ℕ) (list : List ℤ) → length field ≡ c.size → c.reading at field ≡ Ok list → length list ≡ c.count
 
 -- ---- cells in a row

@@ -1,7 +1,7 @@
 -- Proofs, and no definitions: the cells of the blocks are sound.
 use Rattle.std.specs.Prelude.{◌≡◌, ℕ, zero, suc, ◌+◌, ◌*◌, ◌/◌, ◌%◌, ◌<◌, ◌≤◌, Bool, true, false, cond, leb, List, [], ◌∷◌, length, ℤ, pos, negsuc, Some, None, Ok, Option, ◌==◌, nat_le, slice_index, unsigned_abs, refl}
 use Rattle.std.proofs.Common.{ap, ◌∙◌, ⊎_elim, arith}
-use Rattle.std.specs.List.{AllByRecursion as All}
+use Rattle.std.specs.List.{AllByRecursion}
 use Rattle.std.proofs.lemmas.Bool.{cases_Bool, ltb-true, leb-true, le-leb, eqb-true}
 use Rattle.wire.specs.Pairs.{Bytes, pair, pair_bytes}
 use Rattle.wire.proofs.Passing.{went_on}
@@ -101,7 +101,7 @@ in_byte_sound c f = record { written = written; reads = reads; counted = counted
     written at [] field l h = absurd (omega arith)
     written at (z ∷ y ∷ list) field l h = absurd (omega arith)
 
-    reads : (at : ℕ) (field : List ℕ) (list : List ℤ) → length field ≡ 1 → Bytes field → (in_byte c).reading at field ≡ Ok list → All Number list × ((from : ℕ) → (in_byte c).writing from list ≡ Ok field)
+    reads : (at : ℕ) (field : List ℕ) (list : List ℤ) → length field ≡ 1 → Bytes field → (in_byte c).reading at field ≡ Ok list → AllByRecursion Number list × ((from : ℕ) → (in_byte c).writing from list ≡ Ok field)
     reads at (b ∷ []) list l a h =
         let k = went_on (or_fault ByteRange at (c.number b)) (λ z. Ok (z ∷ [])) h in
         let z = k.0 in
@@ -132,7 +132,7 @@ in_pair_sound c f = record { written = written; reads = reads; counted = counted
     written at [] field l h = absurd (omega arith)
     written at (z ∷ y ∷ list) field l h = absurd (omega arith)
 
-    reads : (at : ℕ) (field : List ℕ) (list : List ℤ) → length field ≡ 2 → Bytes field → (in_pair c).reading at field ≡ Ok list → All Number list × ((from : ℕ) → (in_pair c).writing from list ≡ Ok field)
+    reads : (at : ℕ) (field : List ℕ) (list : List ℤ) → length field ≡ 2 → Bytes field → (in_pair c).reading at field ≡ Ok list → AllByRecursion Number list × ((from : ℕ) → (in_pair c).writing from list ≡ Ok field)
     reads at (a ∷ b ∷ []) list l y h =
         let k = went_on (or_fault ByteRange at (c.number (pair a b))) (λ z. Ok (z ∷ [])) h in
         let z = k.0 in
@@ -204,7 +204,7 @@ flags_sound = record { written = written; reads = reads; counted = counted }
     written at (x ∷ y ∷ []) field l h = absurd (omega arith)
     written at (x ∷ y ∷ z ∷ w ∷ list) field l h = absurd (omega arith)
 
-    reads : (at : ℕ) (field : List ℕ) (list : List ℤ) → length field ≡ 1 → Bytes field → flags.reading at field ≡ Ok list → All Number list × ((from : ℕ) → flags.writing from list ≡ Ok field)
+    reads : (at : ℕ) (field : List ℕ) (list : List ℤ) → length field ≡ 1 → Bytes field → flags.reading at field ≡ Ok list → AllByRecursion Number list × ((from : ℕ) → flags.writing from list ≡ Ok field)
     reads at (n ∷ []) list l a h =
         let m : n < 256 = a.0 in
         let e : flag_numbers n ≡ list = cc in

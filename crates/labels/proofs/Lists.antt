@@ -1,6 +1,6 @@
 -- Whole fields and whole lists: their checks one after another, and what an accepted one is.
 use Rattle.std.proofs.Common.{◌≡◌, ℕ, zero, suc, ◌+◌, ◌-◌, ◌<◌, ◌≤◌, true, List, [], ◌∷◌, ◌++◌, map, length, get_or, take, drop, ℤ, pos, nat_abs, Ok, Err, Result, sym, refl, ap, ◌∙◌, arith}
-use Rattle.std.specs.List.{AllByRecursion as All}
+use Rattle.std.specs.List.{AllByRecursion}
 use Rattle.std.proofs.lemmas.List.{take_at, length-take-le, length-drop}
 use Rattle.wire.specs.Pairs.{pair}
 use Rattle.wire.specs.Steps.{◌>>=◌}
@@ -36,7 +36,7 @@ characters_read (suc k) at (b ∷ field) list l h =
     let e = t.4 in
     cc
 
-characters_written : (k at : ℕ) (list : List ℤ) (field : List ℕ) → length list ≡ k → turns k 1 character.writing at list ≡ Ok field → All (λ z. within 127 z ≡ true) list × (field ≡ map nat_abs list)
+characters_written : (k at : ℕ) (list : List ℤ) (field : List ℕ) → length list ≡ k → turns k 1 character.writing at list ≡ Ok field → AllByRecursion (λ z. within 127 z ≡ true) list × (field ≡ map nat_abs list)
 characters_written zero at [] field l h = (tt, sym (same_ok h))
 characters_written zero at (z ∷ list) field l h = absurd (omega arith)
 characters_written (suc k) at [] field l h = absurd (omega arith)
@@ -112,10 +112,10 @@ list_length list field h =
     let c = p.1 in
     omega arith
 
-pub list_bytes : (list : List ℤ) (head : List ℕ) → written_head (labels_meaning.writing list) ≡ Ok head → (7 ≤ length list) × All (λ z. within 127 z ≡ true) (drop 7 list) × (labels_meaning.writing list ≡ Ok (head ++ map nat_abs (drop 7 list))) × (length (head ++ map nat_abs (drop 7 list)) ≡ length list)
+pub list_bytes : (list : List ℤ) (head : List ℕ) → written_head (labels_meaning.writing list) ≡ Ok head → (7 ≤ length list) × AllByRecursion (λ z. within 127 z ≡ true) (drop 7 list) × (labels_meaning.writing list ≡ Ok (head ++ map nat_abs (drop 7 list))) × (length (head ++ map nat_abs (drop 7 list)) ≡ length list)
 list_bytes list head h = go (labels_meaning.writing list) refl h
   where
-    go : (w : Writing) → labels_meaning.writing list ≡ w → written_head w ≡ Ok head → (7 ≤ length list) × All (λ z. within 127 z ≡ true) (drop 7 list) × (labels_meaning.writing list ≡ Ok (head ++ map nat_abs (drop 7 list))) × (length (head ++ map nat_abs (drop 7 list)) ≡ length list)
+    go : (w : Writing) → labels_meaning.writing list ≡ w → written_head w ≡ Ok head → (7 ≤ length list) × AllByRecursion (λ z. within 127 z ≡ true) (drop 7 list) × (labels_meaning.writing list ≡ Ok (head ++ map nat_abs (drop 7 list))) × (length (head ++ map nat_abs (drop 7 list)) ≡ length list)
     go (Err f) w g = let z : ◌≡◌ {A = ℕ} 0 1 = cc in absurd (omega arith)
     go (Ok field) w g =
         let p = layout_written labels list field w in

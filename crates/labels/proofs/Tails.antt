@@ -1,6 +1,6 @@
 -- Seven before the characters: a loop that writes the characters, and one character of many.
 use Rattle.std.proofs.Common.{◌≡◌, ℕ, ◌+◌, ◌-◌, ◌<◌, ◌≤◌, true, List, ◌++◌, map, length, get_or, take, drop, set, ℤ, pos, nat_abs, ap, ◌∙◌, arith}
-use Rattle.std.specs.List.{AllByRecursion as All}
+use Rattle.std.specs.List.{AllByRecursion}
 use Rattle.std.proofs.ByRecursion.{All-get_or}
 use Rattle.std.proofs.lemmas.List.{length-append, length-map, length-drop, get_or-drop, get_or-map, get_or-append_right, take_more, take_more_set}
 use Rattle.books.specs.Words.{within}
@@ -18,7 +18,7 @@ module _ {X Y : Type 0} (f : X → Y) (head : List Y) (xs : List X) (seven : len
       ∙ get_or-map f (drop 7 xs) (i - 7) d e n
       ∙ ap f (get_or-drop 7 xs (i - 7) d ∙ ap (λ j. get_or xs j d) k)
 
-pub character_fits : (list : List ℤ) (i : ℕ) → 7 ≤ i → i < length list → All (λ z. within 127 z ≡ true) (drop 7 list) → (get_or list i (pos 0) ≡ pos (nat_abs (get_or list i (pos 0)))) × (nat_abs (get_or list i (pos 0)) ≤ 127)
+pub character_fits : (list : List ℤ) (i : ℕ) → 7 ≤ i → i < length list → AllByRecursion (λ z. within 127 z ≡ true) (drop 7 list) → (get_or list i (pos 0) ≡ pos (nat_abs (get_or list i (pos 0)))) × (nat_abs (get_or list i (pos 0)) ≤ 127)
 character_fits list i l m a =
     let k : 7 + (i - 7) ≡ i = omega arith in
     let n : i - 7 < length (drop 7 list) = omega (arith, length-drop 7 list) in

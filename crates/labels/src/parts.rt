@@ -3,7 +3,7 @@ ghost use Rattle.labels.specs.Labels.{labels, character, labels_meaning, written
 ghost use Rattle.cells.specs.Cells.{or_fault, checked, turns};
 ghost use Rattle.cells.specs.Layouts.{fitted};
 ghost use Rattle.books.specs.Words.{within};
-ghost use Rattle.std.specs.List.{AllByRecursion as All};
+ghost use Rattle.std.specs.List.{AllByRecursion};
 ghost use Rattle.std.specs.Prelude.{◌≡◌, ◌-◌, ◌<◌, ◌≤◌, true, List, ◌++◌, map, length, take, drop, ℤ, pos, Ok, slice_index_or, unsigned_abs};
 
 use books::book::MOST_BYTES;
@@ -96,7 +96,7 @@ pub(crate) fn check_list(list: &[i32]) -> Result<[u8; 7], FieldFault>
 /// Writes the characters, and leaves the bytes before them.
 pub(crate) fn put_characters(list: &[i32], place: &mut [u8])
     requires head { 7 ≤ length list.now }
-    requires fit { All (λ z. within 127 z ≡ true) (drop 7 list.now) }
+    requires fit { AllByRecursion (λ z. within 127 z ≡ true) (drop 7 list.now) }
     requires room { length place.old ≡ length list.now }
     ensures { place.new ≡ take 7 place.old ++ map unsigned_abs (drop 7 list.now) }
 {

@@ -7,7 +7,7 @@ use judging::faults::{ReceiptFault, Refusal};
 use lines::listing::write_line;
 use lines::refusals::write_refusal;
 use products::closed::Closed;
-use receipt::walks::MOST_BYTES;
+use products::receipt::MOST_BYTES;
 use std::io;
 use std::io::{Read, Write};
 

@@ -1,7 +1,7 @@
 -- Edits of a product's bytes are edits of its records, and leave a row that a product may have.
 use Rattle.std.proofs.Common.{◌≡◌, ℕ, zero, suc, ◌+◌, ◌-◌, ◌*◌, ◌%◌, ◌<◌, ◌≤◌, Bool, true, false, not, ◌&&◌, ◌||◌, eqb, ltb, List, [], ◌∷◌, ◌++◌, length, take, drop, set, is_some, Ok, Err, Result, sym, refl, ap, ◌∙◌, subst, ap₂, arith}
 use mathlib.Core.Bool.{beq}
-use Rattle.std.specs.List.{remove, AllByRecursion as All}
+use Rattle.std.specs.List.{remove, AllByRecursion}
 use Rattle.std.proofs.lemmas.List.Edits.{length-remove}
 use Rattle.std.proofs.lemmas.List.{append_assoc, append-nil, length-append, take_at, drop_at, take-append-drop, set_split}
 use Rattle.std.proofs.lemmas.Bool.{ltb-false, ne_eqb, and_left, or_parts}
@@ -18,7 +18,7 @@ use Rattle.judging.specs.Places.{is_identification, is_end, defines, misplaced, 
 use Rattle.wire.specs.Classes.{class_of}
 use Rattle.records.specs.Records.{Record, Given, given_form, recorded, block_of}
 use Rattle.records.specs.Drafts.{most_data, drafted}
-use Rattle.receipt.specs.Closings.{blocks_of, end_of}
+use Rattle.products.specs.Closings.{blocks_of, end_of}
 use Rattle.lives.proofs.Good.{Fits, Good, block_size, head_there, read_there}
 
 -- ---- places that do not matter behind block 0
@@ -135,7 +135,7 @@ module _ (M : Meaning) where
       rw (length-append (block_of M r) (blocks_of M rs)) (omega (arith, block_size M k r g.0, even_blocks (suc k) rs g.1))
 
   -- ---- a record that passed its checks
-  pub drafted_fits : (L : Lawful M) (k : ℕ) (b : Bool) (g : Given) (r : Record) → All Number g.numbers
+  pub drafted_fits : (L : Lawful M) (k : ℕ) (b : Bool) (g : Given) (r : Record) → AllByRecursion Number g.numbers
       → (b ≡ false → (misplaced k g.mode g.submode ≡ false) × (is_end g.mode g.submode ≡ false)) → drafted M k b g ≡ Ok r → Fits M k (recorded g) × (r ≡ recorded g)
   unfolding drafted
   drafted_fits L k b g r known o h =

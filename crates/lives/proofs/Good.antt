@@ -1,6 +1,6 @@
 -- Rows of records that a product may have: written, they are read back; and what is accepted is such a row.
 use Rattle.std.proofs.Common.{◌≡◌, ℕ, zero, suc, ◌+◌, ◌-◌, ◌*◌, ◌/◌, ◌%◌, ◌<◌, ◌≤◌, Bool, true, false, cond, not, ◌&&◌, ◌||◌, eqb, ltb, List, [], ◌∷◌, ◌++◌, length, take, drop, Ok, Err, Result, sym, refl, ap, ◌∙◌, subst, ap₂, arith}
-use Rattle.std.specs.List.{AllByRecursion as All}
+use Rattle.std.specs.List.{AllByRecursion}
 use Rattle.std.proofs.ByRecursion.{All-drop}
 use Rattle.std.proofs.lemmas.List.{append_assoc, append-nil, length-append}
 use Rattle.std.proofs.lemmas.Bool.{lt-ltb, le-ltb, ne_eqb, or_from, and_left, and_right, not_from_true, cond-true, cond-false, true≢false, and_parts, eqb-true}
@@ -22,11 +22,11 @@ use Rattle.judging.specs.Faults.{located}
 use Rattle.judging.specs.Places.{is_identification, is_end, misplaced, astray, bars_end, placed, placed_in}
 use Rattle.judging.proofs.Judged.{Accepted, judged_shut}
 use Rattle.records.specs.Records.{Record, block_with, block_of}
-use Rattle.receipt.specs.Receipts.{Received, record_of, before, ended, onward, closed_walk, most_blocks}
-use Rattle.receipt.specs.Closings.{blocks_of, end_of, closed_bytes}
-use Rattle.receipt.specs.Opens.{open_walk}
-use Rattle.receipt.proofs.Turns.{Turn, ends, goes, turn_back, none_walked}
-use Rattle.receipt.proofs.Written.{bytes_field}
+use Rattle.products.specs.Receipts.{Received, record_of, before, ended, onward, closed_walk, most_blocks}
+use Rattle.products.specs.Closings.{blocks_of, end_of, closed_bytes}
+use Rattle.products.specs.Opens.{open_walk}
+use Rattle.products.proofs.Turns.{Turn, ends, goes, turn_back, none_walked}
+use Rattle.products.proofs.Written.{bytes_field}
 use Rattle.products.proofs.Held.{end_length}
 
 -- a record that a product may have as block k
@@ -37,7 +37,7 @@ pub record Fits (M : Meaning) (k : ℕ) (r : Record) : Type 0 where
   pub in_place : misplaced k r.mode r.submode ≡ false
   pub near : astray k r.mode r.submode ≡ false
   pub inner : is_end r.mode r.submode ≡ false
-  pub numbers : All Number r.numbers
+  pub numbers : AllByRecursion Number r.numbers
 
 -- records that a product may have from block k on
 abbrev pub Good : Meaning → ℕ → List Record → Type 0

@@ -1,6 +1,6 @@
 -- What every accepted call keeps: the memory holds the product that the records left make.
 use Rattle.std.proofs.Common.{◌≡◌, ℕ, zero, suc, ◌+◌, ◌-◌, ◌*◌, ◌%◌, ◌<◌, ◌≤◌, min, max, Bool, true, false, not, ◌||◌, eqb, ltb, List, [], ◌∷◌, ◌++◌, length, take, drop, set, replicate, ℤ, is_some, Ok, Err, Result, sym, refl, ap, ◌∙◌, subst, ap₂, arith}
-use Rattle.std.specs.List.{remove, AllByRecursion as All}
+use Rattle.std.specs.List.{remove, AllByRecursion}
 use Rattle.std.proofs.lemmas.List.Edits.{length-remove}
 use Rattle.std.proofs.ByRecursion.{All-take}
 use Rattle.std.proofs.lemmas.List.{append-nil, length-append, length-drop, length-replicate, length-set, length-take-le, take_at}
@@ -20,13 +20,13 @@ use Rattle.judging.specs.Faults.{located}
 use Rattle.judging.specs.Places.{is_identification, is_end, misplaced}
 use Rattle.records.specs.Records.{Record, Given, gives, given_form, recorded, block_of}
 use Rattle.records.specs.Drafts.{drafted}
-use Rattle.receipt.specs.Receipts.{Received, counted, closed_walk, receipt, most_bytes, most_blocks}
-use Rattle.receipt.specs.Closings.{blocks_of, end_of, closed_bytes}
-use Rattle.receipt.specs.Opens.{open_walk, open_receipt}
-use Rattle.receipt.proofs.Within.{receipt_within, receipt_few}
-use Rattle.receipt.proofs.Written.{receipt_written}
+use Rattle.products.specs.Receipts.{Received, counted, closed_walk, receipt, most_bytes, most_blocks, closed_as, received}
+use Rattle.products.specs.Closings.{blocks_of, end_of, closed_bytes}
+use Rattle.products.specs.Opens.{open_walk, open_receipt}
+use Rattle.products.proofs.Within.{receipt_within, receipt_few}
+use Rattle.products.proofs.Written.{receipt_written}
 use Rattle.products.specs.declared.closed.Closed.{Closed}
-use Rattle.products.specs.Products.{Product, of_closed, as_open, as_closed, closed_as, received}
+use Rattle.products.specs.Products.{Product, of_closed, as_open, as_closed}
 use Rattle.products.specs.Holding.{held, held_open, records_in, holds}
 use Rattle.products.specs.Calls.{Call, adds, replaces, withdraws, closes, reopens, wants, leads_to, Content, content, limit, crowded, roomy, bars_adding, bars_replacing, mended, Stored, stored, outcome, started}
 use Rattle.products.proofs.Held.{end_length}
@@ -138,7 +138,7 @@ module _ (M : Meaning) (L : Lawful M) where
   roomy_back : (mem : List ℕ) (f : Form) (y x : Content) → roomy mem f y ≡ Ok x → (crowded mem f (length y.bytes) ≡ false) × (y ≡ x)
   roomy_back mem f y x h = let p = passed (crowded mem f (length y.bytes)) _ _ h in (p.0, same_ok p.1)
 
-  left_add : (g : Given) (mem : List ℕ) (f : Form) (rs : List Record) (x : Content) → All Number g.numbers → Lasting M rs
+  left_add : (g : Given) (mem : List ℕ) (f : Form) (rs : List Record) (x : Content) → AllByRecursion Number g.numbers → Lasting M rs
       → mended M mem f (length rs) (blocks_of M rs) (adds g) ≡ Ok x → Left (adds g) f mem rs x
   unfolding mended
   left_add g mem f rs x known l h =
@@ -155,7 +155,7 @@ module _ (M : Meaning) (L : Lawful M) where
         room = omega (arith, uncrowded mem f _ c.0);
       })
 
-  left_replace : (k : ℕ) (g : Given) (mem : List ℕ) (f : Form) (rs : List Record) (x : Content) → All Number g.numbers → Lasting M rs
+  left_replace : (k : ℕ) (g : Given) (mem : List ℕ) (f : Form) (rs : List Record) (x : Content) → AllByRecursion Number g.numbers → Lasting M rs
       → mended M mem f (length rs) (blocks_of M rs) (replaces k g) ≡ Ok x → Left (replaces k g) f mem rs x
   unfolding mended
   left_replace k g mem f rs x known l h =
@@ -237,7 +237,7 @@ module _ (M : Meaning) (L : Lawful M) where
       subst (λ z. Sound M z.product z.memory f (leaves c rs)) (ap (λ g. stored (leads_to c) g y.0 p.bytes mem) (sym s.close_is) ∙ same_ok y.2)
       (stored_sound (leads_to c) f y.0.blocks (leaves c rs) y.0.bytes p.bytes mem l.lasting l.bytes l.count s.room l.room)
 
-  pub started_sound : (mem : List ℕ) (closing form : ℕ) (list : List ℤ) (x : Stored) → All Number list → started M mem closing form list ≡ Ok x
+  pub started_sound : (mem : List ℕ) (closing form : ℕ) (list : List ℤ) (x : Stored) → AllByRecursion Number list → started M mem closing form list ≡ Ok x
       → Sound M x.product x.memory (given_form closing) (recorded (gives form 1 1 list) ∷ [])
   unfolding started
   started_sound mem closing form list x known h =

@@ -1,6 +1,6 @@
 -- What holds of every life.
 use Rattle.std.proofs.Common.{◌≡◌, ℕ, ◌+◌, ◌≤◌, Bool, true, false, ltb, List, [], ◌∷◌, ◌++◌, length, take, Ok, Err, Result, sym, refl, ap, ◌∙◌, ap₂, arith}
-use Rattle.std.specs.List.{flat_map, AllByRecursion as All}
+use Rattle.std.specs.List.{flat_map, AllByRecursion}
 use Rattle.std.proofs.ByRecursion.{All-push}
 use Rattle.std.proofs.lemmas.List.{append-nil, length-take-le, take-take, flat_map_more}
 use Rattle.wire.specs.declared.forms.Form.{Form}
@@ -15,7 +15,7 @@ use Rattle.judging.specs.declared.places.Phase.{Phase}
 use Rattle.judging.specs.declared.places.Phase.TheVariants.{Opened, Shut}
 use Rattle.records.specs.Records.{Record}
 use Rattle.records.specs.Drafts.{drafted}
-use Rattle.receipt.specs.Receipts.{Received, receipt}
+use Rattle.products.specs.Receipts.{Received, receipt}
 use Rattle.products.specs.Products.{Product, as_closed}
 use Rattle.products.specs.Holding.{held, holds}
 use Rattle.products.specs.Calls.{Call, adds, replaces, withdraws, closes, reopens, limit, mended, outcome}
@@ -50,8 +50,8 @@ module _ {S : Type 0} (taken : S → List ℕ) (room : S → ℕ) (M : Meaning) 
   record Kept (s : S) (w : World S) : Type 0 where
     sound : Sound M w.product w.memory w.close w.left
     sink_holds : taken w.sink ≡ taken s ++ flat_map (λ x. pairs x.stood) w.sent
-    told : All (λ x. x.told ≡ length (pairs x.stood)) w.sent
-    received_again : All (λ x. receipt M x.stood (length x.stood) ≡ Ok (record { records = x.left; close = x.close })) w.sent
+    told : AllByRecursion (λ x. x.told ≡ length (pairs x.stood)) w.sent
+    received_again : AllByRecursion (λ x. receipt M x.stood (length x.stood) ≡ Ok (record { records = x.left; close = x.close })) w.sent
 
   -- a sound product's bytes alone are received again
   alone : (p : Product) (mem : List ℕ) (f : Form) (rs : List Record) → p.phase ≡ Shut → Sound M p mem f rs

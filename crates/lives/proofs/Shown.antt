@@ -13,8 +13,8 @@ use Rattle.judging.specs.Blocks.{judged_block, judged_in}
 use Rattle.judging.specs.Places.{misplaced, astray}
 use Rattle.records.specs.Records.{Given, gives}
 use Rattle.records.specs.Drafts.{drafted}
-use Rattle.receipt.specs.Opens.{open_walk, open_receipt}
-use Rattle.receipt.specs.Receipts.{receipt, closed_walk}
+use Rattle.products.specs.Opens.{open_walk, open_receipt}
+use Rattle.products.specs.Receipts.{receipt, closed_walk}
 use Rattle.products.specs.Calls.{adds, withdraws, closes, reopens, content, mended, Stored, stored, outcome, started}
 use Rattle.products.specs.Holding.{held}
 use Rattle.sending.specs.Sending.{sending}

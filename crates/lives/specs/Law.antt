@@ -1,6 +1,6 @@
 -- One writing: what holds of every life of a product, under every book that keeps the laws, with every sink.
 use Rattle.std.specs.Prelude.{◌≡◌, ℕ, ◌≢◌, ◌↔◌, List, ◌++◌, length, Ok, Err}
-use Rattle.std.specs.List.{flat_map, AllByRecursion as All}
+use Rattle.std.specs.List.{flat_map, AllByRecursion}
 use Rattle.wire.specs.declared.forms.Form.{Form}
 use Rattle.wire.specs.Pairs.{pairs}
 use Rattle.books.specs.Books.{Meaning, Lawful}
@@ -9,8 +9,8 @@ use Rattle.judging.specs.declared.faults.Refusal.TheVariants.{NotHeld}
 use Rattle.judging.specs.declared.places.Phase.{Phase}
 use Rattle.judging.specs.declared.places.Phase.TheVariants.{Opened, Shut}
 use Rattle.records.specs.Records.{Record}
-use Rattle.receipt.specs.Receipts.{receipt}
-use Rattle.receipt.specs.Closings.{blocks_of, end_of}
+use Rattle.products.specs.Receipts.{receipt}
+use Rattle.products.specs.Closings.{blocks_of, end_of}
 use Rattle.products.specs.Products.{as_closed}
 use Rattle.products.specs.Calls.{Call, wants, outcome}
 use Rattle.sending.specs.Sending.{sending}
@@ -30,9 +30,9 @@ pub record OneLife {S : Type 0} (taken : S → List ℕ) (M : Meaning) (s : S) (
   pub held_sending : (room : ℕ) → w.product.phase ≡ Shut → (e : ReceiptFault) → sending M w.memory (as_closed w.product) room ≢ Err (NotHeld e)
   -- the sink holds what it first held, then for each accepted sending all pairs of the product as it stood; it told their number
   pub sink_holds : taken w.sink ≡ taken s ++ flat_map (λ x. pairs x.stood) w.sent
-  pub told : All (λ x. x.told ≡ length (pairs x.stood)) w.sent
+  pub told : AllByRecursion (λ x. x.told ≡ length (pairs x.stood)) w.sent
   -- each product sent, as a memory of its bytes alone, is received again as the records and the closing form then left
-  pub received_again : All (λ x. receipt M x.stood (length x.stood) ≡ Ok (record { records = x.left; close = x.close })) w.sent
+  pub received_again : AllByRecursion (λ x. receipt M x.stood (length x.stood) ≡ Ok (record { records = x.left; close = x.close })) w.sent
 
 -- what holds of every life with a sink of one sort, and of every two closed products, whose sinks may be of two sorts
 pub record OneWritingUnder {S T : Type 0} (taken : S → List ℕ) (room : S → ℕ) (taken' : T → List ℕ) (room' : T → ℕ) (M : Meaning) : Type 0 where

@@ -1,15 +1,15 @@
 -- The life of a product: an accepted start or receipt, then any calls on it, refused ones too, on one memory, book and sink.
 use Rattle.std.specs.Prelude.{◌≡◌, ℕ, ◌+◌, List, [], ◌∷◌, ◌++◌, take, ℤ, Ok, Err, Result, slice_set}
-use Rattle.std.specs.List.{remove, AllByRecursion as All}
+use Rattle.std.specs.List.{remove, AllByRecursion}
 use Rattle.wire.specs.declared.forms.Form.{Form}
 use Rattle.wire.specs.Pairs.{Bytes}
 use Rattle.books.specs.Books.{Meaning, Number}
 use Rattle.judging.specs.declared.faults.Refusal.{Refusal}
 use Rattle.judging.specs.declared.places.Phase.TheVariants.{Shut}
 use Rattle.records.specs.Records.{Record, gives, given_form, recorded}
-use Rattle.receipt.specs.Receipts.{Received, receipt}
+use Rattle.products.specs.Receipts.{Received, receipt, received}
 use Rattle.products.specs.declared.closed.Closed.{Closed}
-use Rattle.products.specs.Products.{Product, of_closed, as_closed, received}
+use Rattle.products.specs.Products.{Product, of_closed, as_closed}
 use Rattle.products.specs.Calls.{Call, adds, replaces, withdraws, closes, reopens, wants, Stored, outcome, started}
 use Rattle.sending.specs.Sending.{pairs_in, sending}
 
@@ -23,8 +23,8 @@ leaves reopens rs = rs
 
 -- the numbers of a call's list are of 32 bits, as the type of the list has it
 abbrev pub Typed : Call → Type 0
-Typed (adds g) = All Number g.numbers
-Typed (replaces k g) = All Number g.numbers
+Typed (adds g) = AllByRecursion Number g.numbers
+Typed (replaces k g) = AllByRecursion Number g.numbers
 Typed (withdraws k) = Unit {0}
 Typed closes = Unit {0}
 Typed reopens = Unit {0}
@@ -53,7 +53,7 @@ bytes_now w = take w.product.bytes w.memory
 module _ {S : Type 0} (taken : S → List ℕ) (room : S → ℕ) (M : Meaning) where
   -- a start or a receipt that is accepted
   pub data Begins (s : S) : World S → Type 0 where
-    starts : (mem : List ℕ) (closing form : ℕ) (list : List ℤ) (x : Stored) → All Number list → started M mem closing form list ≡ Ok x
+    starts : (mem : List ℕ) (closing form : ℕ) (list : List ℤ) (x : Stored) → AllByRecursion Number list → started M mem closing form list ≡ Ok x
         → Begins s (record { product = x.product; memory = x.memory; sink = s; left = recorded (gives form 1 1 list) ∷ []; close = given_form closing; sent = [] })
     receives : (mem : List ℕ) (n : ℕ) (x : Received) (p : Closed) → Bytes mem → receipt M mem n ≡ Ok x → received M mem n ≡ Ok p
         → Begins s (record { product = of_closed p; memory = mem; sink = s; left = x.records; close = x.close; sent = [] })

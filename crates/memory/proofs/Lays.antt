@@ -1,5 +1,5 @@
 -- Bytes laid into a memory, one write after another.
-use Rattle.std.proofs.Common.{◌≡◌, ℕ, ◌+◌, ◌-◌, ◌≤◌, max, true, leb, List, ◌++◌, length, take, drop, replicate, sym, refl, ap, ◌∙◌, ap₂, arith}
+use Rattle.std.proofs.Common.{◌≡◌, ℕ, ◌+◌, ◌-◌, ◌≤◌, max, true, leb, List, ◌++◌, length, take, drop, sym, ap, ◌∙◌, ap₂, arith}
 use lib.Seq.{paste}
 use borrow.Rule.Slice.PartMut.{put_mid}
 use Rattle.std.proofs.lemmas.List.{drop-drop, take_at, drop_at, append_assoc, length-append, length-take, length-drop, take-take, length-replicate, drop-take}

@@ -10,14 +10,15 @@ use Rattle.wire.specs.Steps.{◌>>=◌, blame}
 use Rattle.wire.proofs.Coding.{block_length}
 use Rattle.wire.proofs.Passing.{passed, went_on, blameless, same_ok}
 use Rattle.books.specs.Books.{Meaning}
+use Rattle.judging.specs.declared.faults.ReceiptFault.{ReceiptFault}
 use Rattle.judging.specs.declared.faults.Refusal.{Refusal}
 use Rattle.judging.specs.declared.faults.Refusal.TheVariants.{NotHeld}
-use Rattle.receipt.specs.Receipts.{Received, receipt, most_blocks}
-use Rattle.receipt.specs.Closings.{end_of, blocks_of, block_record, ReadsWritten}
-use Rattle.receipt.proofs.Standing.{Stands, receipt_stands}
-use Rattle.receipt.proofs.Within.{receipt_within, receipt_few}
-use Rattle.receipt.specs.Opens.{passes}
-use Rattle.receipt.proofs.Opening.{passed_by}
+use Rattle.products.specs.Receipts.{Received, receipt, closed_as, most_blocks}
+use Rattle.products.specs.Closings.{end_of, blocks_of, block_record, AsWritten}
+use Rattle.products.proofs.Standing.{Stands, receipt_stands}
+use Rattle.products.proofs.Within.{receipt_within, receipt_few}
+use Rattle.products.specs.Opens.{passes}
+use Rattle.products.proofs.Opening.{passed_by}
 use Rattle.products.specs.declared.closed.Closed.{Closed}
 use Rattle.products.specs.Holding.{held, is_held}
 
@@ -49,14 +50,20 @@ same_form LengthOnly LengthOnly e = refl
 pub held_close : (M : Meaning) (mem : List ℕ) (p : Closed) (x : Received) → held M mem p ≡ Ok x → x.close ≡ p.close
 held_close M mem p x h = same_form x.close p.close (held_back M mem p x h).close
 
+-- a product that is received has as many bytes as were counted
+as_counted : (w : Result Received ReceiptFault) (n : ℕ) (q : Closed) → Ok q ≡ closed_as n 0 w → q.bytes ≡ n
+as_counted (Ok x) n q e = ap (λ k. k.bytes) (same_ok e)
+as_counted (Err f) n q e = let z : ◌≡◌ {A = ℕ} 0 1 = cc in absurd (omega arith)
+
 -- the end lies within the bytes
-pub held_ended : (M : Meaning) (mem : List ℕ) (p : Closed) (x : Received) → held M mem p ≡ Ok x → ReadsWritten M mem p.bytes → length (end_of p.close) ≤ p.bytes
-held_ended M mem p x h w =
-    let same : w.0 ≡ x = same_ok (sym w.1 ∙ (held_back M mem p x h).received) in
+pub held_ended : (M : Meaning) (mem : List ℕ) (p : Closed) (x : Received) → held M mem p ≡ Ok x → (q : Closed) → Ok q ≡ closed_as p.bytes 0 (receipt M mem p.bytes) → AsWritten M mem q → length (end_of p.close) ≤ p.bytes
+held_ended M mem p x h q e w =
+    let n : q.bytes ≡ p.bytes = as_counted (receipt M mem p.bytes) p.bytes q e in
+    let same : w.0 ≡ x = same_ok (sym w.1 ∙ ap (receipt M mem) n ∙ (held_back M mem p x h).received) in
     let close = ap (λ y. y.close) same ∙ held_close M mem p x h in
     let whole = ap length w.2 ∙ length-append (blocks_of M w.0.records) (end_of w.0.close) in
-    let taken = length-take p.bytes mem in
-    omega (arith, whole, taken, ap (λ f. length (end_of f)) close)
+    let taken = length-take q.bytes mem in
+    omega (arith, n, whole, taken, ap (λ f. length (end_of f)) close)
 
 -- its blocks are not too many
 pub held_few : (M : Meaning) (mem : List ℕ) (p : Closed) (x : Received) → held M mem p ≡ Ok x → p.blocks ≤ most_blocks

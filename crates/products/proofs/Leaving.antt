@@ -4,7 +4,7 @@ use Rattle.memory.specs.Laid.{spliced, rewritten}
 use Rattle.memory.proofs.Lays.{length_spliced}
 use Rattle.books.specs.Books.{Meaning}
 use Rattle.judging.specs.declared.faults.Refusal.{Refusal}
-use Rattle.receipt.specs.Opens.{passes}
+use Rattle.products.specs.Opens.{passes}
 use Rattle.products.specs.declared.opened.Open.{Open}
 use Rattle.products.specs.declared.closed.Closed.{Closed}
 use Rattle.products.specs.Answers.{product_after, memory_after, shut_by, reopened_by}

@@ -1,3 +1,8 @@
+pub mod Turns
+pub mod Written
+pub mod Within
+pub mod Standing
+pub mod Opening
 pub mod Held
 pub mod Filling
 pub mod Planning

@@ -18,10 +18,10 @@ use Rattle.records.specs.declared.drafts.Draft.{Draft}
 use Rattle.records.specs.Records.{Given, Record, gives, recorded, bytes_in, block_writing, block_of}
 use Rattle.records.proofs.Sizes.{block_written}
 use Rattle.records.specs.Drafts.{drafted, drafts, draft_of}
-use Rattle.receipt.specs.Receipts.{Received, most_blocks}
-use Rattle.receipt.specs.Closings.{end_of}
-use Rattle.receipt.specs.Opens.{passes}
-use Rattle.receipt.proofs.Opening.{passed_by}
+use Rattle.products.specs.Receipts.{Received, most_blocks}
+use Rattle.products.specs.Closings.{end_of}
+use Rattle.products.specs.Opens.{passes}
+use Rattle.products.proofs.Opening.{passed_by}
 use Rattle.products.specs.declared.opened.Open.{Open}
 use Rattle.products.specs.declared.closed.Closed.{Closed}
 use Rattle.products.specs.Products.{of_open, of_closed}

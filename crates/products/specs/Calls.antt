@@ -14,8 +14,8 @@ use Rattle.judging.specs.declared.places.Phase.TheVariants.{Opened, Shut}
 use Rattle.judging.specs.Places.{is_identification, is_end, misplaced}
 use Rattle.records.specs.Records.{Given, gives, given_form, block_of}
 use Rattle.records.specs.Drafts.{drafted}
-use Rattle.receipt.specs.Receipts.{most_bytes, most_blocks}
-use Rattle.receipt.specs.Closings.{end_of}
+use Rattle.products.specs.Receipts.{most_bytes, most_blocks}
+use Rattle.products.specs.Closings.{end_of}
 use Rattle.products.specs.Products.{Product}
 use Rattle.products.specs.Holding.{holds}
 

@@ -11,8 +11,8 @@ use Rattle.judging.specs.declared.places.Phase.{Phase}
 use Rattle.judging.specs.declared.places.Phase.TheVariants.{Opened, Shut}
 use Rattle.judging.specs.Faults.{located}
 use Rattle.records.specs.Records.{Record}
-use Rattle.receipt.specs.Receipts.{Received, receipt}
-use Rattle.receipt.specs.Opens.{open_receipt}
+use Rattle.products.specs.Receipts.{Received, receipt}
+use Rattle.products.specs.Opens.{open_receipt}
 use Rattle.products.specs.declared.opened.Open.{Open}
 use Rattle.products.specs.declared.closed.Closed.{Closed}
 use Rattle.products.specs.Products.{Product, as_open, as_closed}

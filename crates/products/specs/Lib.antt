@@ -1,3 +1,6 @@
+pub mod Receipts
+pub mod Closings
+pub mod Opens
 pub mod Products
 pub mod Holding
 pub mod Calls

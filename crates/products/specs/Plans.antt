@@ -5,7 +5,7 @@ use Rattle.books.specs.Books.{Meaning, weighed}
 use Rattle.records.specs.declared.drafts.Draft.{Draft}
 use Rattle.records.specs.Drafts.{drafts}
 use Rattle.records.specs.Records.{Given, block_writing, block_of}
-use Rattle.receipt.specs.Receipts.{most_blocks}
+use Rattle.products.specs.Receipts.{most_blocks}
 use Rattle.products.specs.Calls.{Call, leads_to, content, stored, outcome}
 use Rattle.products.specs.Products.{Product}
 

@@ -3,8 +3,8 @@ ghost use Rattle.products.specs.Answers.{product_after, memory_after, opened_by,
 ghost use Rattle.products.specs.Calls.{outcome, started, adds, replaces, withdraws, closes, reopens};
 ghost use Rattle.products.specs.Plans.{Planned, Ready};
 ghost use Rattle.products.specs.Products.{of_open, of_closed};
-ghost use Rattle.receipt.specs.Closings.{end_of};
-ghost use Rattle.receipt.specs.Opens.{passes};
+ghost use Rattle.products.specs.Closings.{end_of};
+ghost use Rattle.products.specs.Opens.{passes};
 ghost use Rattle.records.specs.Asked.{asked};
 ghost use Rattle.std.specs.Prelude.{◌≡◌, suc, ◌-◌, ◌≤◌, [], IfOk, OnOk};
 
@@ -14,10 +14,10 @@ use crate::opened::Open;
 use crate::places::{
     bars_adding, bars_replacing, block_part, cut, end_size, is_crowded, put_block, put_end,
 };
+use crate::receipt::MOST_BLOCKS;
 use books::book::Book;
 use judging::faults::{BlockFault, Refusal};
 use memory::Part;
-use receipt::walks::MOST_BLOCKS;
 use records::drafts::{Draft, Record, check_record};
 use wire::forms::Form;
 

@@ -2,7 +2,7 @@
 ghost use Rattle.products.specs.Products.{of_closed, tally_of};
 ghost use Rattle.std.specs.Prelude.{◌≡◌};
 
-use receipt::walks::Tally;
+use crate::tally::Tally;
 use wire::forms::Form;
 
 /// A closed product. Its bytes are the first of the memory that is given with each call.

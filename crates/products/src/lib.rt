@@ -6,4 +6,7 @@ pub mod closed;
 pub mod holding;
 pub mod kept;
 pub mod opened;
+pub mod opens;
 mod places;
+pub mod receipt;
+pub mod tally;

@@ -2,7 +2,7 @@
 ghost use Rattle.products.specs.Products.{of_open, tally_of};
 ghost use Rattle.std.specs.Prelude.{◌≡◌};
 
-use receipt::walks::Tally;
+use crate::tally::Tally;
 use wire::forms::Form;
 
 /// An open product, which has no end yet. Its bytes are the first of the memory that is given with each call.

@@ -2,19 +2,19 @@
 ghost use Rattle.books.specs.Books.{weighed};
 ghost use Rattle.memory.specs.Laid.{spliced, rewritten};
 ghost use Rattle.products.specs.Calls.{crowded, bars_adding, bars_replacing};
-ghost use Rattle.receipt.specs.Closings.{end_of};
+ghost use Rattle.products.specs.Closings.{end_of};
 ghost use Rattle.records.specs.Asked.{asked};
 ghost use Rattle.records.specs.Drafts.{drafts};
 ghost use Rattle.records.specs.Records.{block_writing, block_of};
 ghost use Rattle.std.specs.Prelude.{◌≡◌, suc, ◌+◌, ◌-◌, ◌≤◌, [], length, take, Ok};
 ghost use Rattle.wire.specs.Rows.{start_of};
 
+use crate::receipt::MOST_BYTES;
 use books::book::Book;
 use books::plain::PlainWords;
 use judging::faults::Refusal;
 use judging::places::{is_end, is_identification, is_misplaced};
 use memory::{Part, make_gap};
-use receipt::walks::MOST_BYTES;
 use records::drafts::{Draft, Record};
 use records::writing::write_block;
 use wire::forms::Form;

@@ -18,9 +18,9 @@ use Rattle.judging.proofs.Judged.{Accepted}
 use Rattle.products.specs.declared.closed.Closed.{Closed}
 use Rattle.products.specs.Holding.{held, is_held}
 use Rattle.products.proofs.Held.{held_stands, is_held_passes}
-use Rattle.receipt.specs.Closings.{block_record}
-use Rattle.receipt.proofs.Opening.{passed_by}
-use Rattle.receipt.proofs.Standing.{Stands}
+use Rattle.products.specs.Closings.{block_record}
+use Rattle.products.proofs.Opening.{passed_by}
+use Rattle.products.proofs.Standing.{Stands}
 use Rattle.records.specs.Records.{Record}
 use Rattle.reading.specs.Facts.{facts_of, told_facts}
 use Rattle.reading.specs.Finding.{judged_facts, found_block}

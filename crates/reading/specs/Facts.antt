@@ -9,7 +9,7 @@ use Rattle.judging.specs.declared.faults.Refusal.{Refusal}
 use Rattle.judging.specs.declared.faults.Refusal.TheVariants.{NoSuchBlock}
 use Rattle.products.specs.declared.closed.Closed.{Closed}
 use Rattle.products.specs.Holding.{held}
-use Rattle.receipt.specs.Closings.{block_record}
+use Rattle.products.specs.Closings.{block_record}
 use Rattle.records.specs.Records.{Record}
 use Rattle.reading.specs.declared.facts.Facts.{Facts}
 

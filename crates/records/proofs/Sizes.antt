@@ -1,7 +1,7 @@
 -- What a weight tells of the field that will be written, and of its block.
 use Rattle.std.proofs.Common.{◌≡◌, ℕ, ◌+◌, ◌*◌, ◌%◌, ◌≤◌, Bool, false, ltb, List, length, Some, Ok, Err, Result, unwrap_or, sym, refl, ap, ◌∙◌, arith}
 use Rattle.std.proofs.lemmas.Bool.{le-ltb}
-use Rattle.std.specs.List.{AllByRecursion as All}
+use Rattle.std.specs.List.{AllByRecursion}
 use Rattle.wire.specs.Blocks.{block_bytes, pairs_of, most_mode}
 use Rattle.wire.specs.declared.forms.Form.{Form}
 use Rattle.wire.specs.declared.forms.Form.TheVariants.{Checksummed}
@@ -27,7 +27,7 @@ ok_weighed : (w : Writing) (a : Result ℕ FieldFault) (n : ℕ) → a ≡ weigh
 ok_weighed (Ok field) a n e h = (field, refl, cc)
 ok_weighed (Err f) a n e h = let z : ◌≡◌ {A = ℕ} 0 1 = cc in absurd (omega arith)
 
-pub weighed_back : (M : Meaning) (L : Lawful M) (r : Record) (a : Result ℕ FieldFault) (n : ℕ) → All Number r.numbers
+pub weighed_back : (M : Meaning) (L : Lawful M) (r : Record) (a : Result ℕ FieldFault) (n : ℕ) → AllByRecursion Number r.numbers
     → a ≡ weighed (M.writing r.mode r.submode r.numbers) → a ≡ Ok n → Weighed M r n
 weighed_back M L r a n known e h =
     let w = ok_weighed (M.writing r.mode r.submode r.numbers) a n e h in

@@ -1,6 +1,6 @@
 -- From the first call of a life to the life.
 use Rattle.std.proofs.Common.{◌≡◌, ℕ, false, not, List, ℤ, is_some, Ok, Err, vec_items, Result, sym, refl, ap, ◌∙◌, arith}
-use Rattle.std.specs.List.{AllByRecursion as All}
+use Rattle.std.specs.List.{AllByRecursion}
 use Rattle.wire.specs.Pairs.{Bytes}
 use Rattle.wire.specs.Forms.{form_of}
 use Rattle.wire.specs.Steps.{◌>>=◌}
@@ -12,10 +12,10 @@ use Rattle.judging.specs.declared.faults.Refusal.TheVariants.{NoSuchForm}
 use Rattle.judging.specs.declared.places.Phase.TheVariants.{Opened, Shut}
 use Rattle.records.specs.Records.{Record, gives, given_form, block_of}
 use Rattle.records.specs.Drafts.{drafted}
-use Rattle.receipt.specs.Receipts.{Received, receipt}
+use Rattle.products.specs.Receipts.{Received, receipt, closed_as}
 use Rattle.products.specs.Answers.{memory_after, opened_by}
 use Rattle.products.specs.Calls.{Content, content, roomy, Stored, stored, started}
-use Rattle.products.specs.Products.{Product, as_open, closed_as}
+use Rattle.products.specs.Products.{Product, as_open}
 use Rattle.lives.specs.Lives.{World, starts, receives, Life, begins}
 use Rattle.lives.proofs.Living.{one_life}
 use Rattle.replay.specs.declared.beginning.Beginning.{Beginning}
@@ -43,7 +43,7 @@ phase_started M mem closing form list x h =
     sym (ap (λ s. s.product.phase) (same_ok d.2))
 
 module _ {S : Type 0} (taken : S → List ℕ) (room : S → ℕ) (M : Meaning) (L : Lawful M) (s : S) (mem : List ℕ) where
-  lived_start : (closing form : ℕ) (list : List ℤ) → All Number list → (w : Result Stored Refusal) → started M mem closing form list ≡ w → (state : State) → Ok state ≡ state_started (opened_by w)
+  lived_start : (closing form : ℕ) (list : List ℤ) → AllByRecursion Number list → (w : Result Stored Refusal) → started M mem closing form list ≡ w → (state : State) → Ok state ≡ state_started (opened_by w)
       → Lived taken room M s (product_in state) (memory_after w mem) s
   lived_start closing form list known (Ok x) h state e =
       let life = begins (starts mem closing form list x known h) in

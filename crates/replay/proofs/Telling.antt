@@ -4,8 +4,8 @@ use Rattle.wire.proofs.Passing.{went_on, same_ok}
 use Rattle.books.specs.Books.{Meaning}
 use Rattle.judging.specs.declared.faults.Refusal.{Refusal}
 use Rattle.judging.specs.declared.places.Phase.TheVariants.{Opened, Shut}
-use Rattle.receipt.specs.Opens.{passes}
-use Rattle.receipt.specs.declared.walks.Tally.{Tally}
+use Rattle.products.specs.Opens.{passes}
+use Rattle.products.specs.declared.tally.Tally.{Tally}
 use Rattle.products.specs.declared.opened.Open.{Open}
 use Rattle.products.specs.declared.closed.Closed.{Closed}
 use Rattle.products.specs.Answers.{product_after, memory_after, shut_by, reopened_by}

@@ -1,14 +1,14 @@
 -- The first call of a life.
 use Rattle.std.specs.Prelude.{ℕ, List, Ok, Err, vec_items, Result}
-use Rattle.std.specs.List.{AllByRecursion as All}
+use Rattle.std.specs.List.{AllByRecursion}
 use Rattle.wire.specs.Pairs.{Bytes}
 use Rattle.books.specs.Books.{Meaning, Number}
 use Rattle.judging.specs.declared.faults.ReceiptFault.{ReceiptFault}
 use Rattle.judging.specs.declared.faults.Refusal.{Refusal}
+use Rattle.products.specs.Receipts.{received}
 use Rattle.products.specs.declared.closed.Closed.{Closed}
 use Rattle.products.specs.declared.opened.Open.{Open}
 use Rattle.products.specs.Answers.{memory_after, opened_by}
-use Rattle.products.specs.Products.{received}
 use Rattle.products.specs.Calls.{started}
 use Rattle.replay.specs.declared.beginning.Beginning.{Beginning}
 use Rattle.replay.specs.declared.beginning.Beginning.TheVariants.{Start, Receive}
@@ -36,5 +36,5 @@ memory_begun M mem (Receive count) = mem
 
 -- numbers are of 32 bits and a memory is bytes, as their types have it
 abbrev pub TypedBeginning : List ℕ → Beginning → Type 0
-TypedBeginning mem (Start closing form numbers) = All Number (vec_items numbers)
+TypedBeginning mem (Start closing form numbers) = AllByRecursion Number (vec_items numbers)
 TypedBeginning mem (Receive count) = Bytes mem

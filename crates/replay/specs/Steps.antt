@@ -1,7 +1,7 @@
 -- What one step makes of a product and its memory, what it is told, and which pairs it puts into a sink.
 use Rattle.std.specs.Prelude.{◌≡◌, ℕ, Bool, true, false, cond, List, [], Ok, Err, vec_items, Result}
 use Rattle.books.specs.Books.{Meaning, Number}
-use Rattle.std.specs.List.{AllByRecursion as All}
+use Rattle.std.specs.List.{AllByRecursion}
 use Rattle.judging.specs.declared.faults.Refusal.{Refusal}
 use Rattle.judging.specs.declared.places.Phase.{Phase}
 use Rattle.judging.specs.declared.places.Phase.TheVariants.{Opened, Shut}
@@ -10,7 +10,7 @@ use Rattle.products.specs.Products.{Product, of_open, of_closed, as_closed}
 use Rattle.products.specs.Calls.{Call, adds, replaces, withdraws, closes, reopens, wants, Stored, outcome}
 use Rattle.sending.specs.Sending.{pairs_in, sending}
 use Rattle.sinks.specs.Sinks.{Took}
-use Rattle.receipt.specs.declared.walks.Tally.{Tally}
+use Rattle.products.specs.declared.tally.Tally.{Tally}
 use Rattle.replay.specs.declared.steps.State.{State}
 use Rattle.replay.specs.declared.steps.State.TheVariants.{Opened as OpenState, Shut as ShutState}
 use Rattle.replay.specs.declared.steps.Step.{Step}
@@ -72,8 +72,8 @@ played M room p mem Send = sends M room p mem
 
 -- the numbers of a step are of 32 bits, as the type of its list has it
 abbrev pub TypedOpen : Step → Type 0
-TypedOpen (Add form mode submode numbers) = All Number (vec_items numbers)
-TypedOpen (Replace block form mode submode numbers) = All Number (vec_items numbers)
+TypedOpen (Add form mode submode numbers) = AllByRecursion Number (vec_items numbers)
+TypedOpen (Replace block form mode submode numbers) = AllByRecursion Number (vec_items numbers)
 TypedOpen (Withdraw block) = Unit {0}
 TypedOpen Close = Unit {0}
 TypedOpen Reopen = Unit {0}

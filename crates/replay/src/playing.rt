@@ -11,7 +11,7 @@ use judging::faults::Refusal;
 use products::closed::Closed;
 use products::kept::Kept;
 use products::opened::Open;
-use receipt::walks::Tally;
+use products::tally::Tally;
 use records::drafts::Record;
 use sending::send;
 use sinks::sink::Sink;

@@ -11,7 +11,7 @@ use Rattle.judging.specs.declared.places.Phase.{Phase}
 use Rattle.judging.specs.declared.places.Phase.TheVariants.{Opened, Shut}
 use Rattle.records.specs.Records.{Record, gives, given_form, block_of}
 use Rattle.records.specs.Drafts.{drafted}
-use Rattle.receipt.specs.Opens.{passes}
+use Rattle.products.specs.Opens.{passes}
 use Rattle.products.specs.declared.opened.Open.{Open}
 use Rattle.products.specs.declared.closed.Closed.{Closed}
 use Rattle.products.specs.Answers.{product_after, memory_after, opened_by, shut_by, reopened_by}

@@ -6,8 +6,9 @@ use Rattle.judging.specs.declared.faults.ReceiptFault.{ReceiptFault}
 use Rattle.judging.specs.declared.places.Phase.{Phase}
 use Rattle.judging.specs.declared.places.Phase.TheVariants.{Opened, Shut}
 use Rattle.four_kinds.specs.FourKinds.{four_kinds}
+use Rattle.products.specs.Receipts.{received}
 use Rattle.products.specs.declared.closed.Closed.{Closed as ShutProduct}
-use Rattle.products.specs.Products.{Product, of_open, of_closed, received}
+use Rattle.products.specs.Products.{Product, of_open, of_closed}
 use Rattle.products.specs.Calls.{Call, adds, replaces, withdraws, closes, reopens, Stored, wants, outcome, started}
 use Rattle.scripts.specs.declared.answers.Answer.{Answer}
 use Rattle.scripts.specs.declared.answers.Answer.TheVariants.{Sized, Accepted, Refused, NotReceived, NotAllowed}

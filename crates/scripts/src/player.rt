@@ -12,7 +12,7 @@ use commands::faults::ScriptFault;
 use four_kinds::FourKinds;
 use lines::listing::write_line;
 use products::closed::Closed;
-use receipt::walks::MOST_BYTES;
+use products::receipt::MOST_BYTES;
 use std::alloc::{AllocError, Global};
 use std::io::Write;
 

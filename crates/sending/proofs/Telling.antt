@@ -3,7 +3,7 @@ use Rattle.std.proofs.Common.{◌≡◌, ℕ, ◌-◌, Bool, true, false, cond, 
 use Rattle.wire.specs.Pairs.{pairs}
 use Rattle.books.specs.Books.{Meaning}
 use Rattle.judging.specs.declared.faults.Refusal.TheVariants.{SinkFull}
-use Rattle.receipt.specs.Receipts.{Received}
+use Rattle.products.specs.Receipts.{Received}
 use Rattle.sinks.specs.declared.sink.Full.{Full}
 use Rattle.sinks.specs.Sinks.{sent}
 use Rattle.products.specs.declared.closed.Closed.{Closed}

@@ -1,5 +1,5 @@
 -- One cell more, at any width and any writing of a pair.
-use Rattle.std.proofs.Common.{◌≡◌, ℕ, zero, suc, ◌+◌, ◌-◌, ◌*◌, ◌/◌, ◌^◌, ◌<◌, ◌≤◌, List, [], ◌∷◌, ◌++◌, length, take, drop, sym, refl, ap, ◌∙◌, add-zero, mul-zero, mul-one, mul-suc, mul-add, add-one, arith, Bor, MutBor}
+use Rattle.std.proofs.Common.{◌≡◌, ℕ, zero, suc, ◌+◌, ◌-◌, ◌*◌, ◌/◌, ◌^◌, ◌<◌, ◌≤◌, List, [], ◌∷◌, ◌++◌, length, take, drop, sym, refl, ap, ◌∙◌, add-zero, mul-zero, mul-one, mul-suc, mul-add, add-one, arith, MutBor}
 use Rattle.std.specs.List.{flat_map}
 use Rattle.std.proofs.lemmas.List.{drop-drop, drop_at, take_at, take-append-le, drop-append-le, take-append-drop, length-append, length-take, length-drop, flat_map_more}
 use Rattle.std.proofs.lemmas.List.Edits.{paste_all, paste-paste}

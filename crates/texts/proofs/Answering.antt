@@ -1,6 +1,6 @@
 -- What the four questions of the kind of a text need.
 use Rattle.std.proofs.Common.{◌≡◌, ℕ, ◌<◌, ◌≤◌, true, List, map, length, get_or, ℤ, pos, nat_abs, Some, None, Ok, Err, Result, refl, ap, ◌∙◌, arith}
-use Rattle.std.specs.List.{AllByRecursion as All}
+use Rattle.std.specs.List.{AllByRecursion}
 use Rattle.std.proofs.lemmas.List.{length-map, get_or-map}
 use Rattle.std.proofs.lemmas.Option.{slice_get-get_or, slice_get_past}
 use Rattle.wire.specs.Steps.{◌>>=◌}
@@ -38,7 +38,7 @@ module _ (t : TextMeaning) where
   no_number_text field i e l = rw e (slice_get_past (map pos field) i (omega (arith, length-map field pos)))
 
   -- a weight tells that each number is a character, and what is written
-  pub weight_text : (list : List ℤ) (a : Result ℕ FieldFault) (n : ℕ) → a ≡ weighed ((text_kind t).writing list) → a ≡ Ok n → All (λ z. within top_character z ≡ true) list × (n ≡ length list) × ((text_kind t).writing list ≡ Ok (map nat_abs list))
+  pub weight_text : (list : List ℤ) (a : Result ℕ FieldFault) (n : ℕ) → a ≡ weighed ((text_kind t).writing list) → a ≡ Ok n → AllByRecursion (λ z. within top_character z ≡ true) list × (n ≡ length list) × ((text_kind t).writing list ≡ Ok (map nat_abs list))
   weight_text list a n h e =
       let k = ok_weighed (checked t list_rules (map number_character list)) (map nat_abs list) a n h e in
       let p = passed_text t list_rules list_rules (map number_character list) k.0 in

@@ -1,7 +1,7 @@
 -- Proofs, and no definitions: every kind of text keeps the laws of a kind.
 use Rattle.std.specs.Prelude.{◌≡◌, ℕ, ◌+◌, ◌%◌, ◌≤◌, Bool, true, false, cond, not, List, [], ◌∷◌, map, length, ℤ, pos, negsuc, Some, None, Ok, Option, ◌==◌, nat_eq, nat_le, nat_lt, unsigned_abs, refl}
 use Rattle.std.proofs.Common.{ap, arith}
-use Rattle.std.specs.List.{AllByRecursion as All}
+use Rattle.std.specs.List.{AllByRecursion}
 use Rattle.std.proofs.lemmas.Bool.{eqb-true, ltb-false, or_parts, not-false, leb-true}
 use Rattle.std.proofs.ByRecursion.{All-weaker}
 use Rattle.std.proofs.lemmas.List.{length-map}
@@ -25,7 +25,7 @@ in_range range other breaks None h = let z : ◌≡◌ {A = ℕ} 0 1 = cc in abs
 in_range range other breaks (Some c) h = ((c, refl), h)
 
 module _ (range other : Rule) (breaks : Bool → ℕ → Option Rule) (n : ℕ) where
-  each_in_range : (i : ℕ) (cs : List (Option ℕ)) → first_broken (λ last. broken range (breaks last)) n i cs ≡ Ok tt → All (λ o. (c : ℕ) × (o ≡ Some c)) cs × (first_broken (λ last. broken other (breaks last)) n i cs ≡ Ok tt)
+  each_in_range : (i : ℕ) (cs : List (Option ℕ)) → first_broken (λ last. broken range (breaks last)) n i cs ≡ Ok tt → AllByRecursion (λ o. (c : ℕ) × (o ≡ Some c)) cs × (first_broken (λ last. broken other (breaks last)) n i cs ≡ Ok tt)
   each_in_range i [] h = (tt, refl)
   each_in_range i (c ∷ cs) h =
       let last = nat_eq (i + 1) n in
@@ -36,7 +36,7 @@ module _ (range other : Rule) (breaks : Bool → ℕ → Option Rule) (n : ℕ) 
       ((m.0, r.0), rw e r.1)
 
 -- what it tells that a text has no fault: its length, its characters, and that it has none elsewhere either
-pub passed_text : (t : TextMeaning) (rules other : Rules) (cs : List (Option ℕ)) → checked t rules cs ≡ Ok tt → (length cs % 2 ≡ 0) × (length cs ≤ most_bytes) × All (λ o. (c : ℕ) × (o ≡ Some c)) cs × (checked t other cs ≡ Ok tt)
+pub passed_text : (t : TextMeaning) (rules other : Rules) (cs : List (Option ℕ)) → checked t rules cs ≡ Ok tt → (length cs % 2 ≡ 0) × (length cs ≤ most_bytes) × AllByRecursion (λ o. (c : ℕ) × (o ≡ Some c)) cs × (checked t other cs ≡ Ok tt)
 passed_text t rules other cs h =
     let n = length cs in
     let k = passed (lacks t.fewest n) (fault_at rules.amount n) _ h in
@@ -54,11 +54,11 @@ number_in_range : (z : ℤ) → (c : ℕ) × (number_character z ≡ Some c) →
 number_in_range (pos n) h = some_passed (nat_le n top_character) n h.0 h.1
 number_in_range (negsuc n) h = let e = h.1 in let z : ◌≡◌ {A = ℕ} 0 1 = cc in absurd (omega arith)
 
-pub numbers_in_range : (list : List ℤ) → All (λ o. (c : ℕ) × (o ≡ Some c)) (map number_character list) → All (λ z. within top_character z ≡ true) list
+pub numbers_in_range : (list : List ℤ) → AllByRecursion (λ o. (c : ℕ) × (o ≡ Some c)) (map number_character list) → AllByRecursion (λ z. within top_character z ≡ true) list
 numbers_in_range [] h = tt
 numbers_in_range (z ∷ zs) h = (number_in_range z h.0, numbers_in_range zs h.1)
 
-numbers_back : (list : List ℤ) → All (λ z. within top_character z ≡ true) list → (map byte_character (map unsigned_abs list) ≡ map number_character list) × (map pos (map unsigned_abs list) ≡ list) × Bytes (map unsigned_abs list)
+numbers_back : (list : List ℤ) → AllByRecursion (λ z. within top_character z ≡ true) list → (map byte_character (map unsigned_abs list) ≡ map number_character list) × (map pos (map unsigned_abs list) ≡ list) × Bytes (map unsigned_abs list)
 numbers_back [] h = (refl, refl, tt)
 numbers_back (pos n ∷ zs) h =
     let k = numbers_back zs h.1 in
@@ -77,7 +77,7 @@ number_fits (negsuc n) h = let z : ◌≡◌ {A = ℕ} 0 1 = cc in absurd (omega
 pub read_text : (t : TextMeaning) (field : List ℕ) (list : List ℤ) → (text_kind t).reading field ≡ Ok list → (checked t field_rules (map byte_character field) ≡ Ok tt) × (map pos field ≡ list)
 read_text t field list h = let k = went_on (checked t field_rules (map byte_character field)) _ h in let e = k.2 in (k.1, cc)
 
-pub written_text : (t : TextMeaning) (list : List ℤ) (field : List ℕ) → (text_kind t).writing list ≡ Ok field → (checked t list_rules (map number_character list) ≡ Ok tt) × All (λ z. within top_character z ≡ true) list × (map unsigned_abs list ≡ field)
+pub written_text : (t : TextMeaning) (list : List ℤ) (field : List ℕ) → (text_kind t).writing list ≡ Ok field → (checked t list_rules (map number_character list) ≡ Ok tt) × AllByRecursion (λ z. within top_character z ≡ true) list × (map unsigned_abs list ≡ field)
 written_text t list field h =
     let k = went_on (checked t list_rules (map number_character list)) _ h in
     let p = passed_text t list_rules list_rules (map number_character list) k.1 in
@@ -107,7 +107,7 @@ text_agree t = record {
       let k = read_text t field list h in
       let p = passed_text t field_rules field_rules (map byte_character field) k.0 in
       let e = k.1 in
-      let c : All (λ o. (c : ℕ) × (o ≡ Some c)) (map number_character (map pos field)) = rw (bytes_there field).0 p.2 in
+      let c : AllByRecursion (λ o. (c : ℕ) × (o ≡ Some c)) (map number_character (map pos field)) = rw (bytes_there field).0 p.2 in
       rw e at (All-weaker (λ z. within top_character z ≡ true) Number number_fits (map pos field) (numbers_in_range (map pos field) c));
   even = λ field list h.
       let p = passed_text t field_rules field_rules (map byte_character field) (read_text t field list h).0 in

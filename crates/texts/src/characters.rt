@@ -1,6 +1,6 @@
 // The kind of any text.
 ghost use Rattle.books.specs.Words.{within};
-ghost use Rattle.std.specs.List.{AllByRecursion as All};
+ghost use Rattle.std.specs.List.{AllByRecursion};
 ghost use Rattle.texts.specs.TextLaws.{text_agree};
 ghost use Rattle.texts.specs.Texts.{text_kind, top_character};
 ghost use Rattle.std.specs.Prelude.{◌≡◌, true, map, length, unsigned_abs};
@@ -62,7 +62,7 @@ impl<T: Text> Kind for Characters<T> {
 
 /// Writes each number as a byte.
 fn put_characters(list: &[i32], place: &mut [u8])
-    requires fit { All (λ z. within top_character z ≡ true) list.now }
+    requires fit { AllByRecursion (λ z. within top_character z ≡ true) list.now }
     requires room { length place.old ≡ length list.now }
     ensures { place.new ≡ map unsigned_abs list.now }
 {

@@ -1,12 +1,12 @@
 -- Bytes in pairs.
 use Rattle.std.specs.Prelude.{ℕ, ◌+◌, ◌*◌, ◌/◌, ◌%◌, ◌<◌, List, [], ◌∷◌}
-use Rattle.std.specs.List.{AllByRecursion as All}
+use Rattle.std.specs.List.{AllByRecursion}
 
 abbrev pub Byte : ℕ → Type 0
 Byte b = b < 256
 
 abbrev pub Bytes : List ℕ → Type 0
-Bytes bs = All Byte bs
+Bytes bs = AllByRecursion Byte bs
 
 -- what two bytes are worth
 abbrev pub pair : ℕ → ℕ → ℕ

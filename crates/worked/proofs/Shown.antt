@@ -8,7 +8,7 @@ use Rattle.wire.specs.Rows.{behind}
 use Rattle.judging.specs.Blocks.{judged_block}
 use Rattle.judging.specs.Places.{misplaced, astray}
 use Rattle.products.specs.Holding.{held}
-use Rattle.receipt.specs.Receipts.{receipt, closed_walk}
+use Rattle.products.specs.Receipts.{receipt, closed_walk}
 use Rattle.text.specs.Items.{item_text, later_text, row_text}
 use Rattle.text.specs.Numeral.{numeral}
 use Rattle.worked.specs.Worked.{Worked}

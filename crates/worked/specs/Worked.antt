@@ -15,8 +15,7 @@ use Rattle.judging.specs.declared.faults.BlockFault.TheVariants.{Wire, Leftover}
 use Rattle.judging.specs.declared.faults.Refusal.{Refusal}
 use Rattle.judging.specs.Faults.{located}
 use Rattle.products.specs.declared.closed.Closed.{Closed}
-use Rattle.products.specs.Products.{received}
-use Rattle.receipt.specs.Receipts.{receipt}
+use Rattle.products.specs.Receipts.{receipt, received}
 use Rattle.text.specs.declared.lines.Line.{Line}
 use Rattle.text.specs.Lines.{line_text}
 use Rattle.lines.specs.Listing.{line_of}

@@ -1,6 +1,5 @@
-use Rattle.std.proofs.Common.{◌≡◌, ℕ, ◌+◌, ◌-◌, ◌≤◌, List, length, take, drop, sym, refl, ap, ◌∙◌, arith, length-drop}
+use Rattle.std.proofs.Common.{◌≡◌, ℕ, ◌+◌, ◌-◌, ◌≤◌, List, length, drop, ap, ◌∙◌, arith, length-drop}
 use lib.Seq.{paste}
-use Rattle.memory.specs.Laid.{laid}
 use Rattle.memory.proofs.Lays.{laid_paste}
 use Rattle.memory.proofs.shift.Goals as goal
 

@@ -1,5 +1,5 @@
 use Rattle.std.proofs.Common.{sym, ap, ◌∙◌, subst, rules}
-use Rattle.receipt.proofs.Opening.{passed_by}
+use Rattle.products.proofs.Opening.{passed_by}
 use Rattle.products.specs.Holding.{held}
 use Rattle.products.proofs.Held.{is_held_passes}
 use Rattle.sinks.specs.Sinks.{Took}

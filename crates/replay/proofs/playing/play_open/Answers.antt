@@ -1,5 +1,5 @@
 use Rattle.std.proofs.Common.{◌≡◌, sym, ap, ◌∙◌, subst}
-use Rattle.std.specs.List.{AllByRecursion as All}
+use Rattle.std.specs.List.{AllByRecursion}
 use Rattle.books.specs.Books.{Number}
 use Rattle.records.specs.Records.{gives}
 use Rattle.products.specs.Calls.{adds, replaces, outcome}
@@ -15,7 +15,7 @@ returns-in-Add g c =
     let mem = c.args.memory.now in
     let a = c.in-Add in
     record {
-      known = subst TypedOpen (sym a.is) (subst (All Number) c.as_slice.ensures.value c.numbers_known.ensures);
+      known = subst TypedOpen (sym a.is) (subst (AllByRecursion Number) c.as_slice.ensures.value c.numbers_known.ensures);
       scene = call_told _ p _ mem _ _ _ _ c.add-answer.ensures.answer c.add-answer.ensures.product c.add-answer.ensures.after c.tally.ensures c.told_of-told.ensures
           ∙ ap (λ ns. told_call (outcome M mem p (adds (gives a.form a.mode a.submode ns))) p mem) c.as_slice.ensures.value
           ∙ ap (played M 0 p mem) (sym a.is);
@@ -28,7 +28,7 @@ returns-in-Replace g c =
     let mem = c.args.memory.now in
     let a = c.in-Replace in
     record {
-      known = subst TypedOpen (sym a.is) (subst (All Number) c.as_slice-in-Replace.ensures.value c.numbers_known-in-Replace.ensures);
+      known = subst TypedOpen (sym a.is) (subst (AllByRecursion Number) c.as_slice-in-Replace.ensures.value c.numbers_known-in-Replace.ensures);
       scene = call_told _ p _ mem _ _ _ _ c.replace-answer.ensures.answer c.replace-answer.ensures.product c.replace-answer.ensures.after c.tally-in-Replace.ensures c.told_of-told-in-Replace.ensures
           ∙ ap (λ ns. told_call (outcome M mem p (replaces a.block (gives a.form a.mode a.submode ns))) p mem) c.as_slice-in-Replace.ensures.value
           ∙ ap (played M 0 p mem) (sym a.is);

@@ -2,7 +2,7 @@ use Rattle.std.proofs.Common.{◌≡◌, Ok, Result, refl, ◌∙◌, arith, rul
 use Rattle.judging.specs.declared.faults.Refusal.{Refusal}
 use Rattle.products.specs.Holding.{held, is_held}
 use Rattle.products.proofs.Held.{end_length, is_held_within, is_held_passes, held_back, held_ended}
-use Rattle.receipt.proofs.Opening.{passed_by}
+use Rattle.products.proofs.Opening.{passed_by}
 use Rattle.products.proofs.closed.Closed.check_held.Goals as goal
 use Rattle.products.proofs.closed.Closed.check_held.Goals.{then-found-self-via-then-found-self, then-found-self-via-else-found-self+then-number}
 
@@ -28,6 +28,6 @@ returns g c =
     record {
       value = value;
       within = is_held_within M c.args.memory.now p (Ok tt) value;
-      ended = held_ended M c.args.memory.now p x.0 x.1 c.in_ok-found.ensures.written;
+      ended = held_ended M c.args.memory.now p x.0 x.1 _ c.in_ok-found.ensures.value c.in_ok-found.ensures.written;
       some = omega (arith, (held_back M c.args.memory.now p x.0 x.1).count);
     }

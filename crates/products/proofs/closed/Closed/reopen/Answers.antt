@@ -1,6 +1,6 @@
 use Rattle.std.proofs.Common.{◌-◌, sym, ap, ◌∙◌, arith}
 use Rattle.wire.proofs.Passing.{same_ok}
-use Rattle.receipt.proofs.Opening.{passed_by}
+use Rattle.products.proofs.Opening.{passed_by}
 use Rattle.products.specs.Answers.{memory_after, reopened_by}
 use Rattle.products.specs.Holding.{held}
 use Rattle.products.proofs.Held.{is_held_passes}

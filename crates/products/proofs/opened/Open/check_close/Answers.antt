@@ -1,5 +1,5 @@
 use Rattle.std.proofs.Common.{sym, ap, rules}
-use Rattle.receipt.specs.Opens.{passes}
+use Rattle.products.specs.Opens.{passes}
 use Rattle.products.specs.Calls.{outcome}
 use Rattle.products.proofs.Planning.{close_crowded, close_planned}
 use Rattle.products.proofs.opened.Open.check_close.Goals as goal

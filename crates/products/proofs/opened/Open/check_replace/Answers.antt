@@ -1,5 +1,5 @@
 use Rattle.std.proofs.Common.{sym, ap, rules}
-use Rattle.receipt.specs.Opens.{passes}
+use Rattle.products.specs.Opens.{passes}
 use Rattle.records.specs.Asked.{asked}
 use Rattle.products.specs.Calls.{outcome, mended}
 use Rattle.products.proofs.Planning.{replace_crowded, replace_ready}

@@ -1,5 +1,5 @@
 use Rattle.std.proofs.Common.{sym, ap, arith, rules}
-use Rattle.receipt.specs.Opens.{passes}
+use Rattle.products.specs.Opens.{passes}
 use Rattle.products.specs.Calls.{outcome, mended}
 use Rattle.products.proofs.Planning.{withdraw_planned}
 use Rattle.products.proofs.opened.Open.check_withdraw.Goals as goal
