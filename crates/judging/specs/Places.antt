@@ -1,4 +1,4 @@
--- Where a block may stand in a product. `misplaced` and `astray` are used by name: nothing above opens them.
+-- Where a block may stand in a product. Definitions above use `misplaced` and `astray` by name, and do not open them.
 use Rattle.std.specs.Prelude.{ℕ, Bool, true, false, not, ◌&&◌, Ok, Err, Result, ◌==◌, nat_lt}
 use Rattle.std.specs.Bool.{beq}
 use Rattle.wire.specs.declared.blocks.Head.{Head}

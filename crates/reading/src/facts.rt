@@ -6,7 +6,7 @@ ghost use Rattle.std.specs.Prelude.{◌≡◌};
 use books::book::Book;
 use judging::blocks::judge_block;
 use judging::faults::{Place, ReceiptFault, Refusal};
-use memory::Part;
+pub use memory::Part;
 use products::closed::Closed;
 use wire::classes::Class;
 use wire::forms::Form;
