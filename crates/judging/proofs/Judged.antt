@@ -1,10 +1,10 @@
 -- What an accepted block tells.
-use Rattle.std.proofs.Common.{◌≡◌, ℕ, ◌≤◌, Bool, true, false, cond, ◌&&◌, ltb, List, [], ℤ, Ok, Err, Result, sym, refl, ◌∙◌, subst, arith}
+use Rattle.std.proofs.Common.{◌≡◌, ℕ, ◌≤◌, Bool, true, false, ◌&&◌, ltb, List, [], Ok, sym, refl, ◌∙◌, subst, arith}
 use Rattle.std.proofs.lemmas.Bool.{ltb-false, cond-true, cond-false}
 use Rattle.wire.specs.declared.blocks.Head.{Head}
 use Rattle.wire.specs.Blocks.{read_head, field_of}
 use Rattle.wire.specs.Forms.{fewest_pairs}
-use Rattle.wire.specs.Steps.{◌>>=◌, refuse, blame}
+use Rattle.wire.specs.Steps.{blame}
 use Rattle.wire.proofs.Passing.{passed, allowed, went_on, blameless, same_ok}
 use Rattle.books.specs.Books.{Meaning}
 use Rattle.judging.specs.declared.faults.BlockFault.TheVariants.{Wire, Field}

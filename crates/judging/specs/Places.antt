@@ -1,5 +1,5 @@
 -- Where a block may stand in a product. Definitions above use `misplaced` and `astray` by name, and do not open them.
-use Rattle.std.specs.Prelude.{ℕ, Bool, true, false, not, ◌&&◌, Ok, Err, Result, ◌==◌, nat_lt}
+use Rattle.std.specs.Prelude.{ℕ, Bool, true, false, not, ◌&&◌, Result, ◌==◌, nat_lt}
 use Rattle.std.specs.Bool.{beq}
 use Rattle.wire.specs.declared.blocks.Head.{Head}
 use Rattle.wire.specs.declared.classes.Class.{Class}

@@ -1,5 +1,5 @@
 -- Proofs, and no definitions: a lawful kind over a lawful book is a lawful book.
-use Rattle.std.specs.Prelude.{Bool, true, false, cond, List, ℕ}
+use Rattle.std.specs.Prelude.{Bool, true, false, cond, ℕ}
 use Rattle.books.specs.Books.{Meaning, Agree, Lawful}
 use Rattle.kinds.specs.Kinds.{KindMeaning, settles, laid}
 

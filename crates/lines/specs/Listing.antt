@@ -1,5 +1,5 @@
 -- Which line has which number.
-use Rattle.std.specs.Prelude.{ℕ, ◌-◌, cond, List, Ok, Err, Result, ◌==◌}
+use Rattle.std.specs.Prelude.{ℕ, ◌-◌, cond, List, Ok, Result, ◌==◌}
 use Rattle.wire.specs.Forms.{form_number}
 use Rattle.wire.specs.Steps.{◌>>=◌}
 use Rattle.books.specs.Books.{Meaning}

@@ -1,14 +1,13 @@
 -- Edits of a product's bytes are edits of its records, and leave a row that a product may have.
-use Rattle.std.proofs.Common.{◌≡◌, ℕ, zero, suc, ◌+◌, ◌-◌, ◌*◌, ◌%◌, ◌<◌, ◌≤◌, Bool, true, false, not, ◌&&◌, ◌||◌, eqb, ltb, List, [], ◌∷◌, ◌++◌, length, take, drop, set, is_some, Ok, Err, Result, sym, refl, ap, ◌∙◌, subst, ap₂, arith}
+use Rattle.std.proofs.Common.{◌≡◌, ℕ, zero, suc, ◌+◌, ◌-◌, ◌%◌, ◌<◌, ◌≤◌, Bool, true, false, not, ◌&&◌, eqb, ltb, List, [], ◌∷◌, ◌++◌, length, take, drop, set, is_some, Ok, sym, refl, ap, ◌∙◌, subst, ap₂, arith}
 use mathlib.Core.Bool.{beq}
 use Rattle.std.specs.List.{remove, AllByRecursion}
-use Rattle.std.proofs.lemmas.List.Edits.{length-remove}
 use Rattle.std.proofs.lemmas.List.{append_assoc, append-nil, length-append, take_at, drop_at, take-append-drop, set_split}
-use Rattle.std.proofs.lemmas.Bool.{ltb-false, ne_eqb, and_left, or_parts}
-use Rattle.wire.specs.Blocks.{Sized, pairs_of, size, most_mode, most_pairs}
-use Rattle.wire.specs.Forms.{form_of, fewest_pairs}
+use Rattle.std.proofs.lemmas.Bool.{ltb-false, ne_eqb, and_left}
+use Rattle.wire.specs.Blocks.{most_mode}
+use Rattle.wire.specs.Forms.{form_of}
 use Rattle.wire.specs.Rows.{extent, behind, start_of}
-use Rattle.wire.specs.Steps.{◌>>=◌, refuse, blame}
+use Rattle.wire.specs.Steps.{blame}
 use Rattle.wire.proofs.Coding.{extent_is, checksum_fits}
 use Rattle.wire.proofs.Passing.{passed, went_on, blameless, same_ok}
 use Rattle.memory.specs.Laid.{spliced}
@@ -18,7 +17,7 @@ use Rattle.judging.specs.Places.{is_identification, is_end, defines, misplaced, 
 use Rattle.wire.specs.Classes.{class_of}
 use Rattle.records.specs.Records.{Record, Given, given_form, recorded, block_of}
 use Rattle.records.specs.Drafts.{most_data, drafted}
-use Rattle.products.specs.Closings.{blocks_of, end_of}
+use Rattle.products.specs.Closings.{blocks_of}
 use Rattle.lives.proofs.Good.{Fits, Good, block_size, head_there, read_there}
 
 -- ---- places that do not matter behind block 0

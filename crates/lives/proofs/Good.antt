@@ -1,16 +1,16 @@
 -- Rows of records that a product may have: written, they are read back; and what is accepted is such a row.
-use Rattle.std.proofs.Common.{◌≡◌, ℕ, zero, suc, ◌+◌, ◌-◌, ◌*◌, ◌/◌, ◌%◌, ◌<◌, ◌≤◌, Bool, true, false, cond, not, ◌&&◌, ◌||◌, eqb, ltb, List, [], ◌∷◌, ◌++◌, length, take, drop, Ok, Err, Result, sym, refl, ap, ◌∙◌, subst, ap₂, arith}
+use Rattle.std.proofs.Common.{◌≡◌, ℕ, zero, suc, ◌+◌, ◌*◌, ◌<◌, ◌≤◌, true, false, List, [], ◌∷◌, ◌++◌, length, Ok, sym, refl, ap, ◌∙◌, subst, ap₂, arith}
 use Rattle.std.specs.List.{AllByRecursion}
 use Rattle.std.proofs.ByRecursion.{All-drop}
-use Rattle.std.proofs.lemmas.List.{append_assoc, append-nil, length-append}
-use Rattle.std.proofs.lemmas.Bool.{lt-ltb, le-ltb, ne_eqb, or_from, and_left, and_right, not_from_true, cond-true, cond-false, true≢false, and_parts, eqb-true}
+use Rattle.std.proofs.lemmas.List.{append_assoc, append-nil}
+use Rattle.std.proofs.lemmas.Bool.{lt-ltb, le-ltb, ne_eqb, and_left, and_right, not_from_true, cond-false, true≢false, and_parts, eqb-true}
 use Rattle.wire.specs.declared.blocks.Head.{Head}
 use Rattle.wire.specs.declared.forms.Form.{Form}
 use Rattle.wire.specs.Blocks.{Sized, pairs_of, block_bytes, read_head, size, field_of, rest_of}
 use Rattle.wire.specs.Codec.{Encoded, head_of}
 use Rattle.wire.specs.Forms.{fewest_pairs}
 use Rattle.wire.specs.Pairs.{Byte, Bytes}
-use Rattle.wire.specs.Steps.{◌>>=◌, refuse, blame}
+use Rattle.wire.specs.Steps.{refuse, blame}
 use Rattle.wire.proofs.Coding.{codec, block_length, checksum_fits}
 use Rattle.wire.proofs.Passing.{pass, go_on, not_blamed}
 use Rattle.books.specs.Books.{Meaning, Lawful, Number}
@@ -18,14 +18,13 @@ use Rattle.judging.specs.declared.places.Phase.{Phase}
 use Rattle.judging.specs.declared.places.Phase.TheVariants.{Opened, Shut}
 use Rattle.judging.specs.declared.faults.BlockFault.TheVariants.{Field, EndWithData}
 use Rattle.judging.specs.Blocks.{Judged, judged_block, judged_in, numbers_of}
-use Rattle.judging.specs.Faults.{located}
-use Rattle.judging.specs.Places.{is_identification, is_end, misplaced, astray, bars_end, placed, placed_in}
+use Rattle.judging.specs.Places.{is_end, misplaced, astray, bars_end}
 use Rattle.judging.proofs.Judged.{Accepted, judged_shut}
 use Rattle.records.specs.Records.{Record, block_with, block_of}
-use Rattle.products.specs.Receipts.{Received, record_of, before, ended, onward, closed_walk, most_blocks}
-use Rattle.products.specs.Closings.{blocks_of, end_of, closed_bytes}
+use Rattle.products.specs.Receipts.{Received, record_of, ended, closed_walk, most_blocks}
+use Rattle.products.specs.Closings.{blocks_of, end_of}
 use Rattle.products.specs.Opens.{open_walk}
-use Rattle.products.proofs.Turns.{Turn, ends, goes, turn_back, none_walked}
+use Rattle.products.proofs.Turns.{ends, goes, turn_back, none_walked}
 use Rattle.products.proofs.Written.{bytes_field}
 use Rattle.products.proofs.Held.{end_length}
 

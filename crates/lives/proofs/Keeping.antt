@@ -1,38 +1,38 @@
 -- What every accepted call keeps: the memory holds the product that the records left make.
-use Rattle.std.proofs.Common.{◌≡◌, ℕ, zero, suc, ◌+◌, ◌-◌, ◌*◌, ◌%◌, ◌<◌, ◌≤◌, min, max, Bool, true, false, not, ◌||◌, eqb, ltb, List, [], ◌∷◌, ◌++◌, length, take, drop, set, replicate, ℤ, is_some, Ok, Err, Result, sym, refl, ap, ◌∙◌, subst, ap₂, arith}
-use Rattle.std.specs.List.{remove, AllByRecursion}
+use Rattle.std.proofs.Common.{◌≡◌, ℕ, suc, ◌+◌, ◌-◌, ◌%◌, ◌<◌, ◌≤◌, max, false, not, ◌||◌, eqb, ltb, List, [], ◌∷◌, ◌++◌, length, take, drop, ℤ, is_some, Ok, sym, refl, ap, ◌∙◌, subst, ap₂, arith}
+use Rattle.std.specs.List.{AllByRecursion}
 use Rattle.std.proofs.lemmas.List.Edits.{length-remove}
 use Rattle.std.proofs.ByRecursion.{All-take}
 use Rattle.std.proofs.lemmas.List.{append-nil, length-append, length-drop, length-replicate, length-set, length-take-le, take_at}
-use Rattle.std.proofs.lemmas.Bool.{ltb-true, ltb-false, le-ltb, eqb-true, eqb-false, eq-eqb, or_from, or_parts, not_from_true, not-false}
+use Rattle.std.proofs.lemmas.Bool.{ltb-true, ltb-false, le-ltb, eqb-false, eq-eqb, or_from, or_parts, not_from_true, not-false}
 use Rattle.wire.specs.declared.forms.Form.{Form}
-use Rattle.wire.specs.Forms.{form_number, form_of, fewest_pairs}
+use Rattle.wire.specs.Forms.{form_number, form_of}
 use Rattle.wire.specs.Rows.{start_of}
 use Rattle.wire.specs.Pairs.{Byte, Bytes}
-use Rattle.wire.specs.Steps.{◌>>=◌, refuse, blame}
-use Rattle.wire.proofs.Passing.{pass, passed, allowed, go_on, went_on, not_blamed, blameless, same_ok, from_there}
+use Rattle.wire.specs.Steps.{refuse, blame}
+use Rattle.wire.proofs.Passing.{pass, passed, go_on, went_on, not_blamed, blameless, same_ok, from_there}
 use Rattle.memory.specs.Laid.{spliced, rewritten, zeros}
 use Rattle.books.specs.Books.{Meaning, Lawful, Number}
 use Rattle.judging.specs.declared.places.Phase.{Phase}
 use Rattle.judging.specs.declared.places.Phase.TheVariants.{Opened, Shut}
 use Rattle.judging.specs.declared.faults.BlockFault.TheVariants.{OddCount}
 use Rattle.judging.specs.Faults.{located}
-use Rattle.judging.specs.Places.{is_identification, is_end, misplaced}
+use Rattle.judging.specs.Places.{misplaced}
 use Rattle.records.specs.Records.{Record, Given, gives, given_form, recorded, block_of}
 use Rattle.records.specs.Drafts.{drafted}
 use Rattle.products.specs.Receipts.{Received, counted, closed_walk, receipt, most_bytes, most_blocks, closed_as, received}
-use Rattle.products.specs.Closings.{blocks_of, end_of, closed_bytes}
+use Rattle.products.specs.Closings.{blocks_of, end_of}
 use Rattle.products.specs.Opens.{open_walk, open_receipt}
-use Rattle.products.proofs.Within.{receipt_within, receipt_few}
+use Rattle.products.proofs.Within.{receipt_few}
 use Rattle.products.proofs.Written.{receipt_written}
 use Rattle.products.specs.declared.closed.Closed.{Closed}
-use Rattle.products.specs.Products.{Product, of_closed, as_open, as_closed}
-use Rattle.products.specs.Holding.{held, held_open, records_in, holds}
+use Rattle.products.specs.Products.{Product, of_closed, as_closed}
+use Rattle.products.specs.Holding.{held, records_in, holds}
 use Rattle.products.specs.Calls.{Call, adds, replaces, withdraws, closes, reopens, wants, leads_to, Content, content, limit, crowded, roomy, bars_adding, bars_replacing, mended, Stored, stored, outcome, started}
 use Rattle.products.proofs.Held.{end_length}
 use Rattle.lives.specs.Lives.{leaves, Typed}
 use Rattle.lives.specs.Law.{writing}
-use Rattle.lives.proofs.Good.{Fits, Good, open_reads, closed_reads, Row, row_back}
+use Rattle.lives.proofs.Good.{Good, open_reads, closed_reads, row_back}
 use Rattle.lives.proofs.Edits.{later, good_push, good_set, good_removed, edited_add, edited_replace, edited_withdraw, edited_reopen, fewer_bytes, even_blocks, drafted_fits}
 
 -- the blocks of a product with so many records

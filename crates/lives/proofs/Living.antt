@@ -1,27 +1,24 @@
 -- What holds of every life.
-use Rattle.std.proofs.Common.{◌≡◌, ℕ, ◌+◌, ◌≤◌, Bool, true, false, ltb, List, [], ◌∷◌, ◌++◌, length, take, Ok, Err, Result, sym, refl, ap, ◌∙◌, ap₂, arith}
+use Rattle.std.proofs.Common.{◌≡◌, ℕ, List, ◌++◌, length, take, Ok, Err, sym, ap, ◌∙◌, ap₂, arith}
 use Rattle.std.specs.List.{flat_map, AllByRecursion}
 use Rattle.std.proofs.ByRecursion.{All-push}
 use Rattle.std.proofs.lemmas.List.{append-nil, length-take-le, take-take, flat_map_more}
 use Rattle.wire.specs.declared.forms.Form.{Form}
 use Rattle.wire.specs.Pairs.{pairs}
-use Rattle.wire.specs.Steps.{◌>>=◌, refuse, blame}
-use Rattle.wire.proofs.Passing.{passed, same_ok, from_there}
+use Rattle.wire.proofs.Passing.{same_ok}
 use Rattle.books.specs.Books.{Meaning, Lawful}
 use Rattle.judging.specs.declared.faults.ReceiptFault.{ReceiptFault}
-use Rattle.judging.specs.declared.faults.Refusal.{Refusal}
 use Rattle.judging.specs.declared.faults.Refusal.TheVariants.{NotHeld}
-use Rattle.judging.specs.declared.places.Phase.{Phase}
-use Rattle.judging.specs.declared.places.Phase.TheVariants.{Opened, Shut}
+use Rattle.judging.specs.declared.places.Phase.TheVariants.{Shut}
 use Rattle.records.specs.Records.{Record}
 use Rattle.records.specs.Drafts.{drafted}
 use Rattle.products.specs.Receipts.{Received, receipt}
 use Rattle.products.specs.Products.{Product, as_closed}
 use Rattle.products.specs.Holding.{held, holds}
-use Rattle.products.specs.Calls.{Call, adds, replaces, withdraws, closes, reopens, limit, mended, outcome}
+use Rattle.products.specs.Calls.{Call, adds, replaces, withdraws, closes, reopens, mended, outcome}
 use Rattle.sending.specs.Sending.{pairs_in, sending}
-use Rattle.lives.specs.Lives.{Sent, World, bytes_now, Begins, starts, receives, Step, called, turned_down, sends, unsent, Life, begins, goes_on}
-use Rattle.lives.specs.Law.{writing, OneLife, OneWritingUnder, OneWriting}
+use Rattle.lives.specs.Lives.{World, bytes_now, Begins, starts, receives, Step, called, turned_down, sends, unsent, Life, begins, goes_on}
+use Rattle.lives.specs.Law.{writing, OneLife, OneWriting}
 use Rattle.lives.proofs.Keeping.{Sound, holds_closed, held_closed, held_sound, outcome_sound, started_sound, receipt_sound}
 
 -- ---- nothing but a memory that does not hold the product gives 16

@@ -1,5 +1,5 @@
 -- The worked life, by computing.
-use Rattle.std.proofs.Common.{◌≡◌, ℕ, List, [], ◌∷◌, ◌++◌, replicate, ℤ, pos, negsuc, refl, arith}
+use Rattle.std.proofs.Common.{ℕ, List, [], ◌∷◌, ◌++◌, replicate, pos, negsuc, refl, arith}
 use Rattle.wire.specs.declared.forms.Form.TheVariants.{Checksummed}
 use Rattle.wire.specs.Blocks.{block_bytes, read_head}
 use Rattle.wire.specs.Classes.{tabled}
@@ -19,7 +19,7 @@ use Rattle.products.specs.Calls.{adds, withdraws, closes, reopens, content, mend
 use Rattle.products.specs.Holding.{held}
 use Rattle.sending.specs.Sending.{sending}
 use Rattle.lives.specs.Lives.{starts, called, turned_down, sends, begins, goes_on}
-use Rattle.lives.specs.Worked.{Tray, bytes_of, first_block, word_block, end_block, sent_pairs, WorkedLife}
+use Rattle.lives.specs.Worked.{Tray, bytes_of, first_block, word_block, sent_pairs, WorkedLife}
 
 abbrev mem : List ℕ
 mem = replicate 40 7

@@ -1,5 +1,5 @@
 -- The life of a product: an accepted start or receipt, then any calls on it, refused ones too, on one memory, book and sink.
-use Rattle.std.specs.Prelude.{◌≡◌, ℕ, ◌+◌, List, [], ◌∷◌, ◌++◌, take, ℤ, Ok, Err, Result, slice_set}
+use Rattle.std.specs.Prelude.{◌≡◌, ℕ, ◌+◌, List, [], ◌∷◌, ◌++◌, take, ℤ, Ok, Err, slice_set}
 use Rattle.std.specs.List.{remove, AllByRecursion}
 use Rattle.wire.specs.declared.forms.Form.{Form}
 use Rattle.wire.specs.Pairs.{Bytes}

@@ -1,6 +1,6 @@
 -- A life that was worked by hand: a start, an addition that is turned down, an addition, a closing, a sending, a reopening and
 -- a withdrawal, under plain words.
-use Rattle.std.specs.Prelude.{ℕ, List, [], ◌∷◌, ◌++◌, replicate, ℤ, pos}
+use Rattle.std.specs.Prelude.{ℕ, List, [], ◌∷◌, ◌++◌, replicate, pos}
 use Rattle.std.specs.List.{flat_map}
 use Rattle.wire.specs.declared.forms.Form.TheVariants.{Checksummed, LengthOnly}
 use Rattle.wire.specs.Pairs.{pair_bytes}

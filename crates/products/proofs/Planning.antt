@@ -1,12 +1,11 @@
 -- From what the checks of a call find to its outcome.
-use Rattle.std.proofs.Common.{◌≡◌, ℕ, suc, ◌+◌, ◌-◌, ◌<◌, ◌≤◌, Bool, true, false, not, eqb, ltb, List, [], ◌++◌, length, take, drop, ℤ, Some, Ok, Err, Result, sym, refl, ap, ◌∙◌, ap₂, arith}
+use Rattle.std.proofs.Common.{◌≡◌, ℕ, suc, ◌+◌, ◌-◌, ◌<◌, ◌≤◌, Bool, true, false, not, eqb, ltb, List, [], ◌++◌, length, take, ℤ, Some, Ok, Err, Result, sym, refl, ap, ◌∙◌, ap₂, arith}
 use Rattle.std.proofs.lemmas.List.{append-nil, length-append, length-take, length-take-le, take_all, drop_all}
 use Rattle.std.proofs.lemmas.Bool.{ltb-false, lt-ltb, ne_eqb, not_from_true}
 use Rattle.wire.specs.declared.forms.Form.{Form}
 use Rattle.wire.specs.Forms.{form_of}
 use Rattle.wire.specs.Rows.{start_of}
-use Rattle.wire.specs.Steps.{◌>>=◌, refuse}
-use Rattle.wire.proofs.Passing.{passed, went_on, same_ok}
+use Rattle.wire.proofs.Passing.{same_ok}
 use Rattle.memory.specs.declared.Part.{Part}
 use Rattle.memory.specs.Laid.{spliced}
 use Rattle.memory.proofs.Lays.{length_spliced}

@@ -1,5 +1,5 @@
 -- Block j of an accepted product stands behind the j blocks before it, and says what was read there.
-use Rattle.std.proofs.Common.{◌≡◌, ℕ, zero, suc, ◌+◌, ◌<◌, ◌≤◌, true, List, [], length, take, drop, Ok, sym, refl, subst, arith}
+use Rattle.std.proofs.Common.{◌≡◌, ℕ, zero, suc, ◌+◌, ◌≤◌, true, List, [], length, take, drop, Ok, sym, refl, subst, arith}
 use Rattle.std.proofs.lemmas.Bool.{eqb-true, and_parts}
 use Rattle.wire.specs.Blocks.{size, rest_of}
 use Rattle.wire.specs.Rows.{behind}
@@ -14,7 +14,7 @@ use Rattle.judging.proofs.Judged.{Accepted}
 use Rattle.records.specs.Records.{Record}
 use Rattle.products.specs.Receipts.{Received, record_of, before, closed_walk, counted, receipt, most_blocks}
 use Rattle.products.specs.Closings.{end_record, block_record}
-use Rattle.products.proofs.Turns.{Turn, ends, goes, turn_back, none_walked}
+use Rattle.products.proofs.Turns.{ends, goes, turn_back, none_walked}
 
 -- block k in front of bs is judged, and says r
 pub record Stands (M : Meaning) (k : ℕ) (bs : List ℕ) (r : Record) : Type 0 where

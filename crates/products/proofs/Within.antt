@@ -9,7 +9,7 @@ use Rattle.judging.specs.declared.faults.ReceiptFault.{ReceiptFault}
 use Rattle.judging.specs.Faults.{located}
 use Rattle.products.specs.declared.closed.Closed.{Closed}
 use Rattle.products.specs.Receipts.{Received, counted, closed_walk, receipt, received, closed_as, most_bytes, most_blocks}
-use Rattle.products.proofs.Turns.{Turn, ends, goes, turn_back, none_walked}
+use Rattle.products.proofs.Turns.{ends, goes, turn_back, none_walked}
 
 pub receipt_within : (M : Meaning) (mem : List ℕ) (n : ℕ) (x : Received) → receipt M mem n ≡ Ok x → n ≤ length mem
 unfolding receipt

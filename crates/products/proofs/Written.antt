@@ -1,5 +1,5 @@
 -- An accepted product is the blocks of the records read in it, and the end.
-use Rattle.std.proofs.Common.{◌≡◌, ℕ, zero, suc, ◌+◌, ◌-◌, ◌*◌, ◌≤◌, true, false, List, [], ◌∷◌, ◌++◌, length, take, drop, IfOk, Ok, Err, Result, sym, refl, ap, ◌∙◌, subst, ap₂, arith}
+use Rattle.std.proofs.Common.{◌≡◌, ℕ, zero, suc, ◌+◌, ◌-◌, ◌≤◌, true, false, List, [], ◌++◌, length, take, drop, IfOk, Ok, Err, Result, sym, refl, ap, ◌∙◌, subst, ap₂, arith}
 use Rattle.std.proofs.ByRecursion.{All-take, All-drop}
 use Rattle.std.proofs.lemmas.List.{append_assoc, append-nil, drop_all}
 use Rattle.std.proofs.lemmas.Bool.{eqb-true, and_parts}
@@ -19,7 +19,7 @@ use Rattle.products.specs.declared.closed.Closed.{Closed}
 use Rattle.records.specs.Records.{block_with, block_of}
 use Rattle.products.specs.Receipts.{Received, record_of, closed_walk, counted, receipt, received, closed_as, most_blocks}
 use Rattle.products.specs.Closings.{blocks_of, end_of, closed_bytes, AsWritten}
-use Rattle.products.proofs.Turns.{Turn, ends, goes, turn_back, none_walked}
+use Rattle.products.proofs.Turns.{ends, goes, turn_back, none_walked}
 
 pub bytes_field : (h : Head) (bs : List ℕ) → Bytes bs → Bytes (field_of h bs)
 bytes_field h bs ok = All-take Byte (field_end h - 4) (drop 4 bs) (All-drop Byte 4 bs ok)

@@ -1,5 +1,5 @@
 -- The calls on a product: what turns each down, and the product and the memory after it.
-use Rattle.std.specs.Prelude.{ℕ, suc, ◌+◌, ◌-◌, min, Bool, false, not, ◌||◌, List, [], ◌++◌, length, take, ℤ, is_some, Ok, Err, Result, ◌==◌, nat_lt}
+use Rattle.std.specs.Prelude.{ℕ, suc, ◌+◌, ◌-◌, min, Bool, false, not, ◌||◌, List, [], ◌++◌, length, take, ℤ, is_some, Ok, Result, ◌==◌, nat_lt}
 use Rattle.wire.specs.declared.forms.Form.{Form}
 use Rattle.wire.specs.Forms.{form_of}
 use Rattle.wire.specs.Rows.{start_of}

@@ -1,5 +1,5 @@
 -- Whether a memory holds a product.
-use Rattle.std.specs.Prelude.{ℕ, suc, ◌-◌, ◌*◌, not, ◌||◌, List, length, Ok, Err, Result, ◌==◌}
+use Rattle.std.specs.Prelude.{ℕ, suc, ◌-◌, ◌*◌, not, ◌||◌, List, length, Ok, Result, ◌==◌}
 use Rattle.wire.specs.declared.forms.Form.{Form}
 use Rattle.wire.specs.Forms.{form_number, fewest_pairs}
 use Rattle.wire.specs.Steps.{◌>>=◌, refuse, blame}

@@ -1,5 +1,5 @@
 -- The receipt of a product: what is read in it, or why it is turned down.
-use Rattle.std.specs.Prelude.{ℕ, zero, suc, ◌+◌, ◌%◌, Bool, cond, not, ◌||◌, List, [], ◌∷◌, length, take, Ok, Err, Result, ◌==◌, nat_lt}
+use Rattle.std.specs.Prelude.{ℕ, zero, suc, ◌+◌, ◌%◌, cond, not, ◌||◌, List, [], ◌∷◌, length, take, Ok, Err, Result, ◌==◌, nat_lt}
 use Rattle.wire.specs.declared.blocks.Head.{Head}
 use Rattle.wire.specs.declared.forms.Form.{Form}
 use Rattle.wire.specs.Blocks.{size, rest_of}

@@ -1,5 +1,5 @@
 -- What a closed product tells of one of its blocks.
-use Rattle.std.specs.Prelude.{ℕ, suc, ◌+◌, ◌-◌, ◌*◌, not, List, length, take, Ok, Err, Result, nat_lt}
+use Rattle.std.specs.Prelude.{ℕ, suc, ◌+◌, ◌-◌, ◌*◌, not, List, length, take, Ok, Result, nat_lt}
 use Rattle.wire.specs.Classes.{class_of}
 use Rattle.wire.specs.Forms.{checksum_pairs}
 use Rattle.wire.specs.Rows.{start_of}

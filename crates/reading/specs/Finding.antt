@@ -1,5 +1,5 @@
 -- What the call finds behind k blocks. In a product that is held these are the facts of block k.
-use Rattle.std.specs.Prelude.{ℕ, ◌+◌, List, length, Ok, Err, Result}
+use Rattle.std.specs.Prelude.{ℕ, ◌+◌, List, length, Ok, Result}
 use Rattle.wire.specs.Blocks.{field_end}
 use Rattle.wire.specs.Classes.{class_of}
 use Rattle.wire.specs.Rows.{behind, start_of}

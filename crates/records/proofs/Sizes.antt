@@ -2,7 +2,7 @@
 use Rattle.std.proofs.Common.{◌≡◌, ℕ, ◌+◌, ◌*◌, ◌%◌, ◌≤◌, Bool, false, ltb, List, length, Some, Ok, Err, Result, unwrap_or, sym, refl, ap, ◌∙◌, arith}
 use Rattle.std.proofs.lemmas.Bool.{le-ltb}
 use Rattle.std.specs.List.{AllByRecursion}
-use Rattle.wire.specs.Blocks.{block_bytes, pairs_of, most_mode}
+use Rattle.wire.specs.Blocks.{block_bytes, most_mode}
 use Rattle.wire.specs.declared.forms.Form.{Form}
 use Rattle.wire.specs.declared.forms.Form.TheVariants.{Checksummed}
 use Rattle.wire.specs.Forms.{form_of, fewest_pairs}

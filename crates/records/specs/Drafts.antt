@@ -1,5 +1,5 @@
 -- Whether a record may become a block of a product.
-use Rattle.std.specs.Prelude.{ℕ, ◌-◌, ◌*◌, Bool, not, List, length, is_some, Ok, Err, Result, nat_lt}
+use Rattle.std.specs.Prelude.{ℕ, ◌-◌, ◌*◌, Bool, not, length, is_some, Ok, Err, Result, nat_lt}
 use Rattle.wire.specs.declared.blocks.Malformed.TheVariants.{Mode}
 use Rattle.wire.specs.declared.forms.Form.{Form}
 use Rattle.wire.specs.Blocks.{most_pairs, most_mode}

@@ -9,14 +9,14 @@ use Rattle.books.specs.Books.{Meaning, Lawful, Number}
 use Rattle.judging.specs.declared.faults.ReceiptFault.{ReceiptFault}
 use Rattle.judging.specs.declared.faults.Refusal.{Refusal}
 use Rattle.judging.specs.declared.faults.Refusal.TheVariants.{NoSuchForm}
-use Rattle.judging.specs.declared.places.Phase.TheVariants.{Opened, Shut}
+use Rattle.judging.specs.declared.places.Phase.TheVariants.{Opened}
 use Rattle.records.specs.Records.{Record, gives, given_form, block_of}
 use Rattle.records.specs.Drafts.{drafted}
 use Rattle.products.specs.Receipts.{Received, receipt, closed_as}
 use Rattle.products.specs.Answers.{memory_after, opened_by}
 use Rattle.products.specs.Calls.{Content, content, roomy, Stored, stored, started}
-use Rattle.products.specs.Products.{Product, as_open}
-use Rattle.lives.specs.Lives.{World, starts, receives, Life, begins}
+use Rattle.products.specs.Products.{as_open}
+use Rattle.lives.specs.Lives.{starts, receives, begins}
 use Rattle.lives.proofs.Living.{one_life}
 use Rattle.replay.specs.declared.beginning.Beginning.{Beginning}
 use Rattle.replay.specs.declared.beginning.Beginning.TheVariants.{Start, Receive}

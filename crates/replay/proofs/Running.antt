@@ -12,13 +12,13 @@ use Rattle.products.specs.Calls.{Call, adds, replaces, withdraws, closes, reopen
 use Rattle.sending.specs.Sending.{pairs_in, sending}
 use Rattle.sinks.specs.Sinks.{Took}
 use Rattle.sinks.proofs.Pairing.{took_more}
-use Rattle.lives.specs.Lives.{World, bytes_now, Typed, Step as LifeStep, called, turned_down as turned, sends as sends_on, unsent, Life, goes_on}
+use Rattle.lives.specs.Lives.{World, Typed, Step as LifeStep, called, sends as sends_on, goes_on}
 use Rattle.lives.proofs.Living.{sending_told, one_life}
 use Rattle.replay.specs.declared.steps.Step.{Step}
 use Rattle.replay.specs.declared.steps.Step.TheVariants.{Add, Replace, Withdraw, Close, Reopen, Send}
 use Rattle.replay.specs.declared.steps.Told.{Told}
 use Rattle.replay.specs.declared.steps.Told.TheVariants.{NotAllowed, Refused, Made, Sent}
-use Rattle.replay.specs.Steps.{Scene, passed_over, told_call, told_sending, same_phase, calls, sends, played, TypedOpen, TypedIn, Sunk}
+use Rattle.replay.specs.Steps.{Scene, passed_over, told_call, told_sending, same_phase, calls, sends, played, TypedIn, Sunk}
 use Rattle.replay.specs.Replays.{Run, followed_by, run, Lived}
 
 -- ---- a run and then a step

@@ -1,5 +1,5 @@
 -- From what a call ensures to the turn that it makes.
-use Rattle.std.proofs.Common.{◌≡◌, ℕ, false, not, List, take, ℤ, is_some, Some, None, Ok, Err, Option, Result, sym, refl, ap, ◌∙◌, arith}
+use Rattle.std.proofs.Common.{◌≡◌, ℕ, false, not, List, take, ℤ, is_some, Some, Ok, Err, Option, Result, sym, refl, ap, arith}
 use Prim.{Unit}
 use Rattle.wire.specs.Forms.{form_of}
 use Rattle.wire.specs.Steps.{◌>>=◌}

@@ -1,5 +1,5 @@
 -- From what the pairs of a product find in the sink to the answer of its sending.
-use Rattle.std.proofs.Common.{◌≡◌, ℕ, ◌-◌, Bool, true, false, cond, ltb, List, length, take, Ok, Err, Result, sym, refl, ap, ◌∙◌, arith}
+use Rattle.std.proofs.Common.{◌≡◌, ℕ, ◌-◌, Bool, true, false, cond, List, length, take, Ok, Err, Result, sym, refl, ap, ◌∙◌, arith}
 use Rattle.wire.specs.Pairs.{pairs}
 use Rattle.books.specs.Books.{Meaning}
 use Rattle.judging.specs.declared.faults.Refusal.TheVariants.{SinkFull}

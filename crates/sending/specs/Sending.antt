@@ -1,5 +1,5 @@
 -- What the sending of a closed product answers.
-use Rattle.std.specs.Prelude.{ℕ, List, length, take, Ok, Err, Result, nat_lt}
+use Rattle.std.specs.Prelude.{ℕ, List, length, take, Ok, Result, nat_lt}
 use Rattle.wire.specs.Pairs.{pairs}
 use Rattle.wire.specs.Steps.{◌>>=◌, refuse}
 use Rattle.books.specs.Books.{Meaning}

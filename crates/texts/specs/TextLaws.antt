@@ -5,7 +5,7 @@ use Rattle.std.specs.List.{AllByRecursion}
 use Rattle.std.proofs.lemmas.Bool.{eqb-true, ltb-false, or_parts, not-false, leb-true}
 use Rattle.std.proofs.ByRecursion.{All-weaker}
 use Rattle.std.proofs.lemmas.List.{length-map}
-use Rattle.wire.specs.Pairs.{Byte, Bytes}
+use Rattle.wire.specs.Pairs.{Bytes}
 use Rattle.wire.proofs.Passing.{pass, passed, went_on}
 use Rattle.books.specs.declared.faults.Rule.{Rule}
 use Rattle.books.specs.Books.{Agree, Number, most_bytes}

@@ -1,8 +1,7 @@
 -- Worked values of the format: what the definitions say of bytes that were written out by hand.
-use Rattle.std.specs.Prelude.{◌≡◌, ℕ, List, [], ◌∷◌, ◌++◌, ℤ, pos, negsuc, Ok, Err, codes, Result}
+use Rattle.std.specs.Prelude.{◌≡◌, ℕ, List, [], ◌∷◌, ◌++◌, pos, negsuc, Ok, Err, codes, Result}
 use Rattle.std.specs.List.{flat_map}
 use Rattle.wire.specs.declared.blocks.Head.{Head}
-use Rattle.wire.specs.declared.blocks.Malformed.{Malformed}
 use Rattle.wire.specs.declared.blocks.Malformed.TheVariants.{Short, Flag, Length, Sum}
 use Rattle.wire.specs.declared.forms.Form.{Form}
 use Rattle.wire.specs.declared.forms.Form.TheVariants.{Checksummed, LengthOnly}

@@ -1,4 +1,4 @@
-use Rattle.std.proofs.Common.{sym, ap, ◌∙◌, subst, rules}
+use Rattle.std.proofs.Common.{ap, ◌∙◌, subst, rules}
 use Rattle.products.proofs.Opening.{passed_by}
 use Rattle.products.specs.Holding.{held}
 use Rattle.products.proofs.Held.{is_held_passes}

@@ -1,4 +1,4 @@
-use Rattle.std.proofs.Common.{◌≡◌, suc, ◌-◌, length, sym, ap, ◌∙◌, arith}
+use Rattle.std.proofs.Common.{◌≡◌, suc, ◌-◌, length, ap, ◌∙◌, arith}
 use Rattle.wire.specs.Rows.{behind}
 use Rattle.wire.proofs.Skipping.{behind_length, behind_one}
 use Rattle.products.proofs.places.block_part.Goals as goal

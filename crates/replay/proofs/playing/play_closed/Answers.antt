@@ -1,5 +1,4 @@
-use Rattle.std.proofs.Common.{◌≡◌, sym, ap, ◌∙◌, subst}
-use Rattle.judging.specs.declared.faults.Refusal.{Refusal}
+use Rattle.std.proofs.Common.{◌≡◌, sym, ap, ◌∙◌}
 use Rattle.products.specs.Products.{of_closed}
 use Rattle.replay.specs.Steps.{played, told_sending, turned_down}
 use Rattle.replay.proofs.playing.play_closed.Goals as goal

@@ -1,4 +1,4 @@
-use Rattle.std.proofs.Common.{◌≡◌, ◌≤◌, length, take, drop}
+use Rattle.std.proofs.Common.{◌≡◌, take, drop}
 use Rattle.sinks.specs.Sinks.{Took}
 use Rattle.replay.specs.Replays.{run, Lived}
 use Rattle.replay.specs.Steps.{product_in}

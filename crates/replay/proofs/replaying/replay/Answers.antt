@@ -1,5 +1,5 @@
 use Rattle.std.proofs.Common.{◌≡◌, Ok, sym, ap, ◌∙◌, subst}
-use Rattle.replay.specs.Beginnings.{begun, memory_begun}
+use Rattle.replay.specs.Beginnings.{memory_begun}
 use Rattle.replay.specs.Replays.{run_told, run_from, replayed, in_phase, ends_in, ends_with, tells, Sank}
 use Rattle.replay.specs.Steps.{product_in}
 use Rattle.replay.proofs.Begun.{state_is, begun_lived}
