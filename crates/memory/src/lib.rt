@@ -2,7 +2,7 @@
 #![tactic(auto)]
 
 ghost use Rattle.memory.specs.Laid.{zeros, laid, has_room, gapped};
-ghost use Rattle.std.specs.Prelude.{◌≡◌, ◌+◌, ◌≤◌, length, take, drop};
+ghost use Rattle.std.specs.Prelude.{◌≡◌, ◌+◌, ◌≤◌, length, take, drop, is_ok};
 
 /// A part of a memory, from its first byte to before its last.
 #[derive(Clone, Copy)]
@@ -27,22 +27,26 @@ fn clear(memory: &mut [u8], at: usize, count: usize)
     memory[at..at + count].fill(0);
 }
 
-/// Puts `size` zeros in the place of a part of the first `used` bytes, and tells whether there was room.
+/// The memory has no room, or no such part.
+#[derive(Clone, Copy, PartialEq, Eq, Debug)]
+pub struct NoRoom;
+
+/// Puts `size` zeros in the place of a part of the first `used` bytes.
 /// What follows the part moves, bytes that are freed become 0, and bytes behind those in use stay.
-pub fn make_gap(memory: &mut [u8], used: usize, part: Part, size: usize) -> bool
-    ensures answer { result ≡ has_room used part.from part.to size memory.old }
+pub fn make_gap(memory: &mut [u8], used: usize, part: Part, size: usize) -> Result<(), NoRoom>
+    ensures answer { is_ok result ≡ has_room used part.from part.to size memory.old }
     ensures after { memory.new ≡ gapped used part.from part.to size memory.old }
 {
     if part.from > part.to || part.to > used || used > memory.len() {
-        return false;
+        return Err(NoRoom);
     }
     if size > memory.len() - (used - (part.to - part.from)) {
-        return false;
+        return Err(NoRoom);
     }
     let rest = used - part.to;
     let end = part.from + size + rest;
     shift(memory, part.to, part.from + size, rest);
     clear(memory, part.from, size);
     clear(memory, end, used.saturating_sub(end));
-    true
+    Ok(())
 }

@@ -1,9 +1,10 @@
 -- One cell more, at any width and any writing of a pair.
-use Rattle.std.proofs.Common.{◌≡◌, ℕ, zero, suc, ◌+◌, ◌-◌, ◌*◌, ◌/◌, ◌^◌, ◌<◌, ◌≤◌, List, [], ◌∷◌, ◌++◌, length, take, drop, sym, refl, ap, ◌∙◌, add-zero, mul-zero, mul-one, mul-suc, mul-add, add-one, arith, MutBor}
+use Rattle.std.proofs.Common.{min, ◌≡◌, ℕ, zero, suc, ◌+◌, ◌-◌, ◌*◌, ◌/◌, ◌<◌, ◌≤◌, List, [], ◌∷◌, ◌++◌, length, take, drop, sym, refl, ap, ◌∙◌, add-zero, mul-zero, mul-one, mul-suc, mul-add, add-one, arith, MutBor}
 use Rattle.std.specs.List.{flat_map}
 use Rattle.std.proofs.lemmas.List.{drop-drop, drop_at, take_at, take-append-le, drop-append-le, take-append-drop, length-append, length-take, length-drop, flat_map_more}
 use Rattle.std.proofs.lemmas.List.Edits.{paste_all, paste-paste}
-use Rattle.sinks.specs.Cells.{cells, over, places, octal_digit, octal_line, octal_worth}
+use Rattle.std.proofs.Math.Nat.{mul-div-le, mul-le-mul_left}
+use Rattle.sinks.specs.Cells.{most_bytes, cells, over, places}
 use Rattle.sinks.specs.Sinks.{Took, Wrote}
 
 over_none : (at : ℕ) (m : List ℕ) → over at [] m ≡ m
@@ -89,12 +90,24 @@ module _ (w : ℕ) (cell : ℕ → List ℕ) (len : (p : ℕ) → length (cell p
 room_less : (x n : ℕ) → 0 < x - n → (x - (n + 1)) + 1 ≡ x - n
 room_less x n h = omega arith
 
+pub some_left : (x y : ℕ) → x ≡ y → (x ≡ 0 → ⊥) → 0 < y
+some_left x y e h = omega (arith, e, h)
+
+-- a place that is left lies within the memory
+pub place_fits : (w n bytes : ℕ) → 0 < w → 0 < places w n bytes → w * n + w ≤ bytes
+place_fits w n bytes s h =
+    let q : ℕ = min bytes most_bytes / w in
+    let below : w * q ≤ min bytes most_bytes = mul-div-le (min bytes most_bytes) w in
+    let rises : w * (n + 1) ≤ w * q = mul-le-mul_left w (omega (arith, h)) in
+    omega (arith, below, rises, mul-add w n 1, mul-one w)
+
 -- a sink of any kind that lays one cell behind the others
 module _ (S : Type 0) (memory : S → MutBor (List ℕ)) (count : S → ℕ) (worth : List ℕ → ℕ) (w : ℕ) (cell : ℕ → List ℕ) (len : (p : ℕ) → length (cell p) ≡ w) where
-  pub took_cell : (s t : S) (p : ℕ) → w * count s + w ≤ length (memory s).now → 0 < places w (count s) (length (memory s).now) → worth (cell p) ≡ p
-      → count t ≡ count s + 1 → (memory t).ghost_name ≡ (memory s).ghost_name → (memory t).now ≡ over (w * count s) (cell p) (memory s).now
+  pub took_cell : (s t : S) (p : ℕ) (bs : List ℕ) → bs ≡ cell p → w * count s + w ≤ length (memory s).now → 0 < places w (count s) (length (memory s).now) → worth (cell p) ≡ p
+      → count t ≡ count s + 1 → (memory t).ghost_name ≡ (memory s).ghost_name → (memory t).now ≡ over (w * count s) bs (memory s).now
       → Took (λ r. cells worth w (count r) (memory r).now) (λ r. places w (count r) (length (memory r).now)) (λ r ps q. Wrote w cell (memory r) (count r) ps (memory q) (count q)) s (p ∷ []) t
-  took_cell s t p fits free back c same e =
+  took_cell s t p bs written fits free back c same laid =
+      let e : (memory t).now ≡ over (w * count s) (cell p) (memory s).now = rw written at laid in
       let l : length (memory t).now ≡ length (memory s).now =
       ap length e ∙ length_over (w * count s) (cell p) (memory s).now (omega (arith, len p)) in
       let more : (r : S) (ps : List ℕ) → Wrote w cell (memory r) (count r) ps (memory s) (count s) → Wrote w cell (memory r) (count r) (ps ++ (p ∷ [])) (memory t) (count t) =
@@ -104,14 +117,3 @@ module _ (S : Type 0) (memory : S → MutBor (List ℕ)) (count : S → ℕ) (wo
         words = more s [] (wrote_none w cell len (memory s) (count s));
         onward = more;
       }
-
--- the digits, from the first on
-pub octal_back : (p : ℕ) → p < 2 ^ 16 → octal_worth (octal_line p) ≡ p
-octal_back p h =
-    let a : 0 + (octal_digit p 0o100000 - 48) ≡ p / 0o100000 = omega arith in
-    let b : 8 * (p / 0o100000) + (octal_digit p 0o10000 - 48) ≡ p / 0o10000 = omega arith in
-    let d : 8 * (p / 0o10000) + (octal_digit p 0o1000 - 48) ≡ p / 0o1000 = omega arith in
-    let e : 8 * (p / 0o1000) + (octal_digit p 0o100 - 48) ≡ p / 0o100 = omega arith in
-    let f : 8 * (p / 0o100) + (octal_digit p 0o10 - 48) ≡ p / 0o10 = omega arith in
-    let g : 8 * (p / 0o10) + (octal_digit p 1 - 48) ≡ p = omega arith in
-    rw (a, b, d, e, f, g) refl

@@ -1,8 +1,8 @@
-// Where pairs are sent: the sink, two sinks that fill a memory, and the sending of all pairs of a row of bytes.
+// Where pairs are sent: the sink, a sink that fills a memory with a cell for each pair, and the sending of all pairs of a row of bytes.
 #![tactic(auto)]
 
 pub mod bytes;
-mod cells;
+pub mod cells;
 pub mod octal;
 pub mod sending;
 pub mod sink;

@@ -1,20 +1,17 @@
 // Pairs as text.
-ghost use Rattle.std.specs.Prelude.{◌≡◌, ◌<◌, length};
-ghost use Rattle.sinks.specs.Cells.{cells, places, octal_digit, octal_line, octal_worth};
-ghost use Rattle.sinks.specs.Sinks.{Begun, Wrote};
+ghost use Rattle.std.specs.Prelude.{◌≡◌, ◌<◌, refl};
+ghost use Rattle.std.proofs.Common.{arith};
+ghost use Rattle.sinks.specs.Cells.{octal_digit, octal_line, octal_worth};
+ghost use Rattle.sinks.specs.CellLaws.{octal_back};
 
-use crate::cells::{lay, places};
-use crate::sink::{Full, Sink};
+use crate::cells::{Cell, CellSink};
 
-/// Six digits and the end of the line.
-const WIDTH: usize = 7;
+/// A line of six octal digits, as `000401`.
+#[derive(Clone, Copy)]
+pub struct OctalLine;
 
-/// Fills a memory with a line for each pair, as `000401`.
-#[derive(Drop)]
-pub struct OctalSink<'a> {
-    memory: &'a mut [u8],
-    count: usize,
-}
+/// Fills a memory with a line for each pair.
+pub type OctalSink<'a> = CellSink<'a, OctalLine, 7>;
 
 fn digit(pair: u16, unit: u16) -> u8
     requires { 0 < unit }
@@ -23,47 +20,26 @@ fn digit(pair: u16, unit: u16) -> u8
     b'0' + (pair / unit % 8) as u8
 }
 
-fn line(pair: u16) -> [u8; WIDTH]
-    ensures { result ≡ octal_line pair }
-{
-    [
-        digit(pair, 0o100_000),
-        digit(pair, 0o10_000),
-        digit(pair, 0o1_000),
-        digit(pair, 0o100),
-        digit(pair, 0o10),
-        digit(pair, 1),
-        b'\n',
-    ]
-}
+impl Cell<7> for OctalLine {
+    ghost worth = { octal_worth };
 
-impl<'a> OctalSink<'a> {
-    /// A sink that fills the memory from its front.
-    pub fn new(memory: &'a mut [u8]) -> OctalSink<'a>
-        ensures { Begun octal_worth 7 result.memory result.count memory.entry }
-    {
-        OctalSink { memory, count: 0 }
-    }
-}
+    ghost cell = { octal_line };
 
-impl Sink for OctalSink<'_> {
-    ghost taken = { λ s. cells octal_worth 7 s.count s.memory.now };
-
-    ghost room = { λ s. places 7 s.count (length s.memory.now) };
-
-    ghost wrote = { λ s ps t. Wrote 7 octal_line s.memory s.count ps t.memory t.count };
-
-    fn space(&self) -> usize {
-        places(self.memory.len(), WIDTH, self.count)
+    fn bytes(pair: u16) -> [u8; 7] {
+        [
+            digit(pair, 0o100_000),
+            digit(pair, 0o10_000),
+            digit(pair, 0o1_000),
+            digit(pair, 0o100),
+            digit(pair, 0o10),
+            digit(pair, 1),
+            b'\n',
+        ]
     }
 
-    fn put(&mut self, pair: u16) -> Result<(), Full> {
-        if self.space() == 0 {
-            return Err(Full);
-        }
-        let at = WIDTH * self.count;
-        lay(self.memory, at, &line(pair));
-        self.count += 1;
-        Ok(())
-    }
+    ghost some = { omega arith };
+
+    ghost wide = { λ p. refl };
+
+    ghost back = { octal_back };
 }

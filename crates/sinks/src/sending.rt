@@ -4,8 +4,9 @@ ghost use Rattle.sinks.specs.Sinks.{Took, laid, sent};
 ghost use Rattle.wire.specs.Pairs.{pair_bytes, pairs};
 ghost use Rattle.std.specs.Prelude.{◌≡◌, length, MatchResult};
 
-use crate::bytes::ByteSink;
-use crate::octal::OctalSink;
+use crate::bytes::TwoBytes;
+use crate::cells::{Cell, CellSink};
+use crate::octal::OctalLine;
 use crate::sink::{Full, Sink};
 use wire::pairs::worth;
 
@@ -24,12 +25,20 @@ pub fn put_all<S: Sink>(bytes: &[u8], sink: &mut S) -> Result<usize, Full>
     Ok(count)
 }
 
+/// Puts all pairs into the first cells of `out` and tells their number, or leaves it as it is.
+fn fill<C: Cell<WIDTH> + Drop, const WIDTH: usize>(bytes: &[u8], out: &mut [u8]) -> Result<usize, Full>
+    ensures answer { result ≡ sent (places WIDTH 0 (length out.old)) (length (pairs bytes.now)) }
+    ensures memory { out.new ≡ laid WIDTH C.cell (pairs bytes.now) out.old }
+{
+    put_all(bytes, &mut CellSink::<C, WIDTH>::new(out))
+}
+
 /// Writes all pairs as lines into `out` and tells their number, or leaves it as it is.
 pub fn print_pairs(bytes: &[u8], out: &mut [u8]) -> Result<usize, Full>
     ensures answer { result ≡ sent (places 7 0 (length out.old)) (length (pairs bytes.now)) }
     ensures memory { out.new ≡ laid 7 octal_line (pairs bytes.now) out.old }
 {
-    put_all(bytes, &mut OctalSink::new(out))
+    fill::<OctalLine, 7>(bytes, out)
 }
 
 /// Copies all pairs into `out` and tells their number, or leaves it as it is.
@@ -37,5 +46,5 @@ pub fn store_pairs(bytes: &[u8], out: &mut [u8]) -> Result<usize, Full>
     ensures answer { result ≡ sent (places 2 0 (length out.old)) (length (pairs bytes.now)) }
     ensures memory { out.new ≡ laid 2 pair_bytes (pairs bytes.now) out.old }
 {
-    put_all(bytes, &mut ByteSink::new(out))
+    fill::<TwoBytes, 2>(bytes, out)
 }

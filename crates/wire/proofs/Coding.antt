@@ -108,7 +108,7 @@ module _ (f : Form) (m s : ℕ) (d rest : List ℕ) (z : Sized f m d) where
       let p : first_pair all % 16384 ≡ len = omega (arith, first, len_most) in
       let o : get_or all 2 0 ≡ m = rw all_as refl in
       let u : get_or all 3 0 ≡ s = rw all_as refl in
-      λ i. record { form = f; pairs = p i; mode = o i; submode = u i }
+      λ i. record { form = f; pairs = p i; modes = record { mode = o i; submode = u i } }
 
   whole_balanced : unbalanced f (block_bytes f m s d) ≡ false
   unfolding block_bytes
@@ -218,7 +218,7 @@ module _ (a b c e : ℕ) (t : List ℕ) (f : Form) (len : ℕ)
   unfolding k tail
   tail_is = checksum_is f (front f c e (take fb t)) tail front_even tail_long tail_bytes tail_balanced
 
-  decoded : Decoded (record { form = f; pairs = len; mode = c; submode = e }) (a ∷ b ∷ c ∷ e ∷ t)
+  decoded : Decoded (record { form = f; pairs = len; modes = record { mode = c; submode = e } }) (a ∷ b ∷ c ∷ e ∷ t)
   unfolding fb k bs block_bytes
   decoded = record {
     whole =

@@ -65,7 +65,7 @@ flagged (suc (suc n)) = Err Flag
 
 -- the first two pairs in a form
 abbrev pub head_in : Form → List ℕ → Head
-head_in form bs = record { form = form; pairs = first_pair bs % 16384; mode = slice_index bs 2; submode = slice_index bs 3 }
+head_in form bs = record { form = form; pairs = first_pair bs % 16384; modes = record { mode = slice_index bs 2; submode = slice_index bs 3 } }
 
 -- how many bytes a block has
 abbrev pub size : Head → ℕ
@@ -92,7 +92,7 @@ unbalanced LengthOnly bs = false
 abbrev pub sound : Head → List ℕ → Result (Unit {0}) Malformed
 sound h bs = do
   _ ← refuse (unbalanced h.form (take (size h) bs)) Sum
-  refuse (nat_lt most_mode h.mode) Mode
+  refuse (nat_lt most_mode h.modes.mode) Mode
 
 -- the head of the block at the front of bs, where that block is well formed
 unfoldable pub read_head : List ℕ → Result Head Malformed

@@ -7,13 +7,13 @@ use Rattle.wire.specs.Pairs.{Bytes}
 
 -- the bytes begin with the block that the head tells of
 pub record Decoded (h : Head) (bs : List ℕ) : Type 0 where
-  pub whole : bs ≡ block_bytes h.form h.mode h.submode (field_of h bs) ++ rest_of h bs
-  pub sized : Sized h.form h.mode (field_of h bs)
+  pub whole : bs ≡ block_bytes h.form h.modes.mode h.modes.submode (field_of h bs) ++ rest_of h bs
+  pub sized : Sized h.form h.modes.mode (field_of h bs)
   pub lies : Framed h bs
 
 -- the head of a written block
 abbrev pub head_of : Form → ℕ → ℕ → List ℕ → Head
-head_of form mode submode field = record { form = form; pairs = pairs_of form (length field); mode = mode; submode = submode }
+head_of form mode submode field = record { form = form; pairs = pairs_of form (length field); modes = record { mode = mode; submode = submode } }
 
 -- a written block is read back, and what follows it is left
 pub record Encoded (form : Form) (mode submode : ℕ) (field rest : List ℕ) : Type 0 where

@@ -1,6 +1,8 @@
 -- The two forms of a block.
-use Rattle.std.specs.Prelude.{ℕ, zero, suc, ◌+◌, Some, None, Option}
+use Rattle.std.specs.Prelude.{ℕ, zero, suc, ◌+◌, Some, None, Option, Result}
+use Rattle.std.specs.Option.{ok_or}
 use Rattle.wire.specs.declared.forms.Form.{Form}
+use Rattle.wire.specs.declared.forms.NoSuchForm.{NoSuchForm}
 use Rattle.wire.specs.declared.forms.Form.TheVariants.{Checksummed, LengthOnly}
 
 -- the number of a form, which is its flag on the wire
@@ -13,6 +15,10 @@ abbrev pub form_of : ℕ → Option Form
 form_of zero = Some Checksummed
 form_of (suc zero) = Some LengthOnly
 form_of (suc (suc n)) = None
+
+-- the same, and what is told where there is none
+abbrev pub form_numbered : ℕ → Result Form NoSuchForm
+form_numbered n = ok_or (form_of n) (record {})
 
 -- how many pairs the CHECKSUM takes
 abbrev pub checksum_pairs : Form → ℕ

@@ -3,6 +3,5 @@ pub mod Pairs
 pub mod Forms
 pub mod Blocks
 pub mod Classes
-pub mod Table
 pub mod Codec
 pub mod Rows

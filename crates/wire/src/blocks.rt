@@ -1,8 +1,10 @@
 // One block: its head, its sum and its data field.
 ghost use Rattle.std.specs.Prelude.{◌≡◌, IfOk};
+ghost use Rattle.wire.specs.declared.blocks.Malformed.TheVariants.{Flag};
 ghost use Rattle.wire.specs.Blocks.{malformed_number, framed, sound, read_head, unbalanced, field_end, size, Framed};
 
-use crate::forms::Form;
+use crate::forms::{Form, NoSuchForm};
+use crate::modes::Modes;
 use crate::pairs::{sum_pairs, worth};
 
 /// The most pairs of a block.
@@ -28,6 +30,14 @@ pub enum Malformed {
     Mode,
 }
 
+impl From<NoSuchForm> for Malformed {
+    ghost from_gives = { λ _ r. r ≡ Flag };
+
+    fn from(_error: NoSuchForm) -> Malformed {
+        Malformed::Flag
+    }
+}
+
 impl Malformed {
     pub fn number(self) -> u8
         ensures { result ≡ malformed_number self }
@@ -42,8 +52,7 @@ pub struct Head {
     pub form: Form,
     /// LENGTH, the number of all pairs of the block.
     pub pairs: u16,
-    pub mode: u8,
-    pub submode: u8,
+    pub modes: Modes,
 }
 
 impl Head {
@@ -70,20 +79,18 @@ fn read_frame(bytes: &[u8]) -> Result<Head, Malformed>
         return Err(Malformed::Short);
     };
     let first = worth(*left, *right);
-    let form = match first / 16_384 {
-        0 => Form::Checksummed,
-        1 => Form::LengthOnly,
-        _ => return Err(Malformed::Flag),
-    };
+    let form = Form::try_from(first / 16_384)?;
     let pairs = first % 16_384;
-    if pairs < form.fewest_pairs() || pairs > MOST_PAIRS {
+    if !(form.fewest_pairs()..=MOST_PAIRS).contains(&pairs) {
         return Err(Malformed::Length);
     }
     let head = Head {
         form,
         pairs,
-        mode: *mode,
-        submode: *submode,
+        modes: Modes {
+            mode: *mode,
+            submode: *submode,
+        },
     };
     if bytes.len() < head.size() {
         return Err(Malformed::Past);
@@ -107,13 +114,14 @@ fn check_sound(head: Head, bytes: &[u8]) -> Result<(), Malformed>
     if is_unbalanced(head.form, &bytes[0..head.size()]) {
         return Err(Malformed::Sum);
     }
-    if head.mode > MOST_MODE {
+    if head.modes.mode > MOST_MODE {
         return Err(Malformed::Mode);
     }
     Ok(())
 }
 
 /// The head of the well-formed block at the front of the bytes.
+#[tactic(auto, unfolding(crate::specs::Blocks::read_head))]
 pub fn read_head(bytes: &[u8]) -> Result<Head, Malformed>
     ensures value { result ≡ read_head bytes.now }
     ensures fits { IfOk result (λ h. Framed h bytes.now) }

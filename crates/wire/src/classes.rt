@@ -1,7 +1,9 @@
-// The classes of blocks, from one table.
+// The classes of blocks, from three tables.
 ghost use Rattle.wire.specs.Classes.{tabled, class_of, class_name};
-ghost use Rattle.wire.specs.Table.{looked_up};
-ghost use Rattle.std.specs.Prelude.{◌≡◌};
+ghost use Rattle.std.specs.Prelude.{◌≡◌, Some};
+
+use crate::modes::Modes;
+use std::fmt;
 
 /// What a block is for.
 #[derive(Clone, Copy, PartialEq, Eq, Debug)]
@@ -13,83 +15,88 @@ pub enum Class {
     Unknown,
 }
 
-/// A mode, a submode and their class.
-#[derive(Clone, Copy)]
-struct Entry(u8, u8, Class);
-
-const TABLE: [Entry; 31] = [
-    Entry(3, 0o20, Class::Definition),
-    Entry(3, 0o30, Class::Definition),
-    Entry(4, 0o20, Class::Definition),
-    Entry(4, 0o30, Class::Definition),
-    Entry(5, 0o20, Class::Definition),
-    Entry(6, 0o20, Class::Definition),
-    Entry(6, 0o30, Class::Definition),
-    Entry(6, 0o40, Class::Definition),
-    Entry(7, 0o20, Class::Definition),
-    Entry(3, 0o21, Class::Description),
-    Entry(3, 0o22, Class::Description),
-    Entry(3, 0o23, Class::Description),
-    Entry(6, 0o41, Class::Description),
-    Entry(6, 0o42, Class::Description),
-    Entry(3, 0o1, Class::Data),
-    Entry(4, 0o1, Class::Data),
-    Entry(4, 0o2, Class::Data),
-    Entry(4, 0o3, Class::Data),
-    Entry(4, 0o4, Class::Data),
-    Entry(4, 0o5, Class::Data),
-    Entry(4, 0o6, Class::Data),
-    Entry(4, 0o7, Class::Data),
-    Entry(4, 0o10, Class::Data),
-    Entry(4, 0o11, Class::Data),
-    Entry(4, 0o12, Class::Data),
-    Entry(5, 0o1, Class::Data),
-    Entry(5, 0o2, Class::Data),
-    Entry(5, 0o3, Class::Data),
-    Entry(5, 0o4, Class::Data),
-    Entry(6, 0o1, Class::Data),
-    Entry(7, 0o1, Class::Data),
+/// Modes and submodes of definitions.
+const DEFINITIONS: [(u8, u8); 9] = [
+    (3, 0o20),
+    (3, 0o30),
+    (4, 0o20),
+    (4, 0o30),
+    (5, 0o20),
+    (6, 0o20),
+    (6, 0o30),
+    (6, 0o40),
+    (7, 0o20),
 ];
 
-/// The class of the first entry of that mode and submode.
-fn look_up(table: &[Entry], mode: u8, submode: u8) -> Class
-    ensures { result ≡ looked_up mode submode table.now }
-{
-    for entry in table {
-        if entry.0 == mode && entry.1 == submode {
-            return entry.2;
-        }
-    }
-    Class::Unknown
-}
+/// Those of descriptions.
+const DESCRIPTIONS: [(u8, u8); 5] = [(3, 0o21), (3, 0o22), (3, 0o23), (6, 0o41), (6, 0o42)];
 
-fn from_table(mode: u8, submode: u8) -> Class
-    ensures { result ≡ tabled mode submode }
+/// Those of data, beside all of mode 2.
+const DATA: [(u8, u8); 17] = [
+    (3, 0o1),
+    (4, 0o1),
+    (4, 0o2),
+    (4, 0o3),
+    (4, 0o4),
+    (4, 0o5),
+    (4, 0o6),
+    (4, 0o7),
+    (4, 0o10),
+    (4, 0o11),
+    (4, 0o12),
+    (5, 0o1),
+    (5, 0o2),
+    (5, 0o3),
+    (5, 0o4),
+    (6, 0o1),
+    (7, 0o1),
+];
+
+#[tactic(auto, unfolding(crate::specs::Classes::tabled))]
+fn from_tables(modes: Modes) -> Class
+    ensures { result ≡ tabled modes.mode modes.submode }
 {
-    look_up(&TABLE, mode, submode)
+    let entry = (modes.mode, modes.submode);
+    if DEFINITIONS.contains(&entry) {
+        Class::Definition
+    } else if DESCRIPTIONS.contains(&entry) {
+        Class::Description
+    } else if DATA.contains(&entry) {
+        Class::Data
+    } else {
+        Class::Unknown
+    }
 }
 
 impl Class {
     /// The class of a mode and a submode.
-    pub fn of(mode: u8, submode: u8) -> Class
-        ensures { result ≡ class_of mode submode }
+    pub fn of(modes: Modes) -> Class
+        ensures { result ≡ class_of modes.mode modes.submode }
     {
-        match mode {
+        match modes.mode {
             1 => Class::Control,
             2 => Class::Data,
-            _ => from_table(mode, submode),
+            _ => from_tables(modes),
         }
     }
 
-    pub fn name(self) -> &'static [u8]
+    pub fn name(self) -> &'static str
         ensures { result.now ≡ class_name self }
     {
         match self {
-            Class::Control => b"control",
-            Class::Definition => b"definition",
-            Class::Description => b"description",
-            Class::Data => b"data",
-            Class::Unknown => b"unknown",
+            Class::Control => "control",
+            Class::Definition => "definition",
+            Class::Description => "description",
+            Class::Data => "data",
+            Class::Unknown => "unknown",
         }
+    }
+}
+
+impl fmt::Display for Class {
+    ghost output = { λ c. Some (class_name c) };
+
+    fn fmt<W: fmt::Write>(&self, f: &mut fmt::Formatter<W>) -> fmt::Result {
+        f.write_str(self.name())
     }
 }

@@ -1,5 +1,5 @@
 // The forms of a block.
-ghost use Rattle.wire.specs.Forms.{form_number, form_of, checksum_pairs, fewest_pairs};
+ghost use Rattle.wire.specs.Forms.{form_number, form_numbered, checksum_pairs, fewest_pairs};
 ghost use Rattle.std.specs.Prelude.{◌≡◌};
 
 /// Which of LENGTH and CHECKSUM a block has.
@@ -11,6 +11,24 @@ pub enum Form {
     LengthOnly,
 }
 
+/// A number that no form has.
+#[derive(Clone, Copy, PartialEq, Eq, Debug)]
+pub struct NoSuchForm;
+
+impl TryFrom<u16> for Form {
+    type Error = NoSuchForm;
+
+    ghost try_from_gives = { λ number r. r ≡ form_numbered number };
+
+    fn try_from(number: u16) -> Result<Form, NoSuchForm> {
+        match number {
+            0 => Ok(Form::Checksummed),
+            1 => Ok(Form::LengthOnly),
+            _ => Err(NoSuchForm),
+        }
+    }
+}
+
 impl Form {
     pub fn number(self) -> u8
         ensures { result ≡ form_number self }
@@ -18,17 +36,6 @@ impl Form {
         match self {
             Form::Checksummed => 0,
             Form::LengthOnly => 1,
-        }
-    }
-
-    /// The form of a number.
-    pub fn of(number: u16) -> Option<Form>
-        ensures { result ≡ form_of number }
-    {
-        match number {
-            0 => Some(Form::Checksummed),
-            1 => Some(Form::LengthOnly),
-            _ => None,
         }
     }
 

@@ -6,7 +6,7 @@ ghost use Rattle.std.specs.Prelude.{◌≡◌};
 pub fn worth(left: u8, right: u8) -> u16
     ensures { result ≡ pair left right }
 {
-    256 * u16::from(left) + u16::from(right)
+    u16::from_be_bytes([left, right])
 }
 
 /// The sum of all pairs, with carries past 16 bits dropped.

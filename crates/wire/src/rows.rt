@@ -18,11 +18,7 @@ fn extent_of(bytes: &[u8]) -> usize
 fn skip(bytes: &[u8], count: usize) -> &[u8]
     ensures { result.now ≡ drop count bytes.now }
 {
-    if count <= bytes.len() {
-        &bytes[count..]
-    } else {
-        &[]
-    }
+    bytes.get(count..).unwrap_or(&[])
 }
 
 /// What lies behind the first `blocks` blocks.
