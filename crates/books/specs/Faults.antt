@@ -1,6 +1,6 @@
 -- The rules of data fields and lists, their numbers, and a fault at a place.
-use Rattle.std.specs.Prelude.{ℕ, Bool, cond, List, length, Some, None, Ok, Err, Option, Result, nat_lt}
-use Rattle.std.specs.List.{prefix_len}
+use Rattle.std.specs.Prelude.{ℕ, Bool, not, List, Some, None, Ok, Err, Option, Result}
+use Rattle.std.specs.List.{position}
 use Rattle.books.specs.declared.faults.Rule.{Rule}
 use Rattle.books.specs.declared.faults.Rule.TheVariants.{DataLength, ListLength, NumberRange, ByteRange, EarlyEnd, WrongEnd, StraySeparator}
 use Rattle.books.specs.declared.faults.FieldFault.{FieldFault}
@@ -19,9 +19,9 @@ rule_number StraySeparator = 7
 abbrev pub fault_at : Rule → ℕ → FieldFault
 fault_at r p = record { rule = r; place = p }
 
--- the index of the first element that fails a test, just after the longest front that passes; none where all pass
+-- the index of the first element that fails a test; none where all pass
 abbrev pub first_fail : {X : Type 0} → (X → Bool) → List X → Option ℕ
-first_fail p xs = cond (nat_lt (prefix_len p xs) (length xs)) (Some (prefix_len p xs)) None
+first_fail p xs = position (λ x. not (p x)) xs
 
 -- turned down where there is a place at which the rule is broken
 abbrev pub refuse_at : Rule → Option ℕ → Result (Unit {0}) FieldFault

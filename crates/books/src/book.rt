@@ -3,6 +3,7 @@ ghost use Rattle.books.specs.Books.{Meaning, Lawful, judged, number_at, weighed,
 ghost use Rattle.std.specs.Prelude.{◌≡◌};
 
 use crate::faults::FieldFault;
+use wire::modes::Modes;
 
 /// The most bytes of a data field.
 pub const MOST_BYTES: usize = 4_092;
@@ -14,19 +15,19 @@ pub trait Book {
     ghost lawful: { (b : Self) → Lawful (meaning b) };
 
     /// How many numbers the field holds.
-    fn judge(&self, mode: u8, submode: u8, field: &[u8]) -> Result<usize, FieldFault>
-        ensures { result ≡ judged ((meaning self.now).reading mode submode field.now) };
+    fn judge(&self, modes: Modes, field: &[u8]) -> Result<usize, FieldFault>
+        ensures { result ≡ judged ((meaning self.now).reading modes.mode modes.submode field.now) };
 
     /// The number at an index; none past the last, and none of a field with a fault.
-    fn number(&self, mode: u8, submode: u8, field: &[u8], index: usize) -> Option<i32>
-        ensures { result ≡ number_at ((meaning self.now).reading mode submode field.now) index };
+    fn number(&self, modes: Modes, field: &[u8], index: usize) -> Option<i32>
+        ensures { result ≡ number_at ((meaning self.now).reading modes.mode modes.submode field.now) index };
 
     /// How many bytes the list takes.
-    fn weigh(&self, mode: u8, submode: u8, list: &[i32]) -> Result<usize, FieldFault>
-        ensures { result ≡ weighed ((meaning self.now).writing mode submode list.now) };
+    fn weigh(&self, modes: Modes, list: &[i32]) -> Result<usize, FieldFault>
+        ensures { result ≡ weighed ((meaning self.now).writing modes.mode modes.submode list.now) };
 
     /// Writes the list into a place of just its bytes; a refusal leaves the place as it was.
-    fn write(&self, mode: u8, submode: u8, list: &[i32], place: &mut [u8]) -> Result<(), FieldFault>
-        ensures answer { result ≡ answered ((meaning self.now).writing mode submode list.now) place.old }
-        ensures after { place.new ≡ placed ((meaning self.now).writing mode submode list.now) place.old };
+    fn write(&self, modes: Modes, list: &[i32], place: &mut [u8]) -> Result<(), FieldFault>
+        ensures answer { result ≡ answered ((meaning self.now).writing modes.mode modes.submode list.now) place.old }
+        ensures after { place.new ≡ placed ((meaning self.now).writing modes.mode modes.submode list.now) place.old };
 }

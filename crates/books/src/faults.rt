@@ -1,5 +1,5 @@
 // What is wrong with a data field or a list.
-ghost use Rattle.books.specs.Faults.{rule_number};
+ghost use Rattle.books.specs.Faults.{rule_number, fault_at};
 ghost use Rattle.std.specs.Prelude.{◌≡◌};
 
 /// The rule that is broken.
@@ -26,6 +26,13 @@ impl Rule {
         ensures { result ≡ rule_number self }
     {
         self as u8
+    }
+
+    /// The rule broken at a place.
+    pub const fn at(self, place: usize) -> FieldFault
+        ensures { result ≡ fault_at self place }
+    {
+        FieldFault { rule: self, place }
     }
 }
 

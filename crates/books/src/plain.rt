@@ -7,6 +7,7 @@ ghost use Rattle.std.specs.Prelude.{◌≡◌, ◌*◌, length, None};
 use crate::book::{Book, MOST_BYTES};
 use crate::faults::{FieldFault, Rule};
 use crate::scan::first_outside;
+use wire::modes::Modes;
 
 /// The most numbers of a list.
 pub const MOST_WORDS: usize = 2_046;
@@ -20,18 +21,15 @@ impl Book for PlainWords {
 
     ghost lawful = { λ _. plain_lawful };
 
-    fn judge(&self, _mode: u8, _submode: u8, field: &[u8]) -> Result<usize, FieldFault> {
+    fn judge(&self, _modes: Modes, field: &[u8]) -> Result<usize, FieldFault> {
         if field.len() % 2 != 0 || field.len() > MOST_BYTES {
-            return Err(FieldFault {
-                rule: Rule::DataLength,
-                place: field.len(),
-            });
+            return Err(Rule::DataLength.at(field.len()));
         }
         Ok(field.len() / 2)
     }
 
-    fn number(&self, mode: u8, submode: u8, field: &[u8], index: usize) -> Option<i32> {
-        match self.judge(mode, submode, field) {
+    fn number(&self, modes: Modes, field: &[u8], index: usize) -> Option<i32> {
+        match self.judge(modes, field) {
             Ok(count) if index < count => {
                 let word = u16::from_be_bytes([field[2 * index], field[2 * index + 1]]);
                 Some(i32::from(word))
@@ -40,35 +38,20 @@ impl Book for PlainWords {
         }
     }
 
-    fn weigh(&self, _mode: u8, _submode: u8, list: &[i32]) -> Result<usize, FieldFault> {
+    fn weigh(&self, _modes: Modes, list: &[i32]) -> Result<usize, FieldFault> {
         if list.len() > MOST_WORDS {
-            return Err(FieldFault {
-                rule: Rule::ListLength,
-                place: list.len(),
-            });
+            return Err(Rule::ListLength.at(list.len()));
         }
         match first_outside(list, u16::MAX) {
-            Some(place) => Err(FieldFault {
-                rule: Rule::NumberRange,
-                place,
-            }),
+            Some(index) => Err(Rule::NumberRange.at(index)),
             None => Ok(2 * list.len()),
         }
     }
 
-    fn write(
-        &self,
-        mode: u8,
-        submode: u8,
-        list: &[i32],
-        place: &mut [u8],
-    ) -> Result<(), FieldFault> {
-        let weight = self.weigh(mode, submode, list)?;
+    fn write(&self, modes: Modes, list: &[i32], place: &mut [u8]) -> Result<(), FieldFault> {
+        let weight = self.weigh(modes, list)?;
         if place.len() != weight {
-            return Err(FieldFault {
-                rule: Rule::DataLength,
-                place: place.len(),
-            });
+            return Err(Rule::DataLength.at(place.len()));
         }
         put_words(list, place);
         Ok(())

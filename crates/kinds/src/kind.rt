@@ -1,20 +1,18 @@
 // What every kind answers.
 ghost use Rattle.books.specs.Books.{Agree, judged, number_at, weighed, answered, placed};
 ghost use Rattle.kinds.specs.Kinds.{KindMeaning};
+ghost use Rattle.wire.specs.declared.modes.Modes.{Modes};
 ghost use Rattle.std.specs.Prelude.{◌≡◌};
 
-use crate::fixed::Fixed;
 use books::faults::FieldFault;
+use wire::modes::Modes;
 
 /// What the data fields of one mode and submode hold.
 pub trait Kind {
-    type Mode: Fixed + Copy;
+    /// Its mode and submode.
+    const MODES: Modes;
 
-    type Submode: Fixed + Copy;
-
-    const MODE: Self::Mode;
-
-    const SUBMODE: Self::Submode;
+    ghost MODES: { Modes };
 
     ghost meaning: { Self → KindMeaning };
 

@@ -3,10 +3,10 @@ ghost use Rattle.kinds.specs.Laid.{laid_lawful};
 ghost use Rattle.kinds.specs.Kinds.{laid, settles};
 ghost use Rattle.std.specs.Prelude.{◌≡◌};
 
-use crate::fixed::Fixed;
 use crate::kind::Kind;
 use books::book::Book;
 use books::faults::FieldFault;
+use wire::modes::Modes;
 
 /// A kind that settles its own blocks, and passes the others to the book below.
 #[derive(Clone, Copy)]
@@ -15,52 +15,46 @@ pub struct Over<K, B> {
     pub below: B,
 }
 
-fn is_own<K: Kind>(mode: u8, submode: u8) -> bool
-    ensures { result ≡ settles K.Mode.Fixed.value K.Submode.Fixed.value mode submode }
+fn is_own<K: Kind>(modes: Modes) -> bool
+    ensures { result ≡ settles K.MODES.mode K.MODES.submode modes.mode modes.submode }
 {
-    mode == K::MODE.get() && submode == K::SUBMODE.get()
+    modes == K::MODES
 }
 
 impl<K: Kind, B: Book> Book for Over<K, B> {
-    ghost meaning = { λ o. laid K.Mode.Fixed.value K.Submode.Fixed.value (K.Kind.meaning o.kind) (B.Book.meaning o.below) };
+    ghost meaning = { λ o. laid K.MODES.mode K.MODES.submode (K.Kind.meaning o.kind) (B.Book.meaning o.below) };
 
-    ghost lawful = { λ o. laid_lawful K.Mode.Fixed.value K.Submode.Fixed.value (K.Kind.meaning o.kind) (B.Book.meaning o.below) (K.Kind.lawful o.kind) (B.Book.lawful o.below) };
+    ghost lawful = { λ o. laid_lawful K.MODES.mode K.MODES.submode (K.Kind.meaning o.kind) (B.Book.meaning o.below) (K.Kind.lawful o.kind) (B.Book.lawful o.below) };
 
-    fn judge(&self, mode: u8, submode: u8, field: &[u8]) -> Result<usize, FieldFault> {
-        if is_own::<K>(mode, submode) {
+    fn judge(&self, modes: Modes, field: &[u8]) -> Result<usize, FieldFault> {
+        if is_own::<K>(modes) {
             self.kind.judge(field)
         } else {
-            self.below.judge(mode, submode, field)
+            self.below.judge(modes, field)
         }
     }
 
-    fn number(&self, mode: u8, submode: u8, field: &[u8], index: usize) -> Option<i32> {
-        if is_own::<K>(mode, submode) {
+    fn number(&self, modes: Modes, field: &[u8], index: usize) -> Option<i32> {
+        if is_own::<K>(modes) {
             self.kind.number(field, index)
         } else {
-            self.below.number(mode, submode, field, index)
+            self.below.number(modes, field, index)
         }
     }
 
-    fn weigh(&self, mode: u8, submode: u8, list: &[i32]) -> Result<usize, FieldFault> {
-        if is_own::<K>(mode, submode) {
+    fn weigh(&self, modes: Modes, list: &[i32]) -> Result<usize, FieldFault> {
+        if is_own::<K>(modes) {
             self.kind.weigh(list)
         } else {
-            self.below.weigh(mode, submode, list)
+            self.below.weigh(modes, list)
         }
     }
 
-    fn write(
-        &self,
-        mode: u8,
-        submode: u8,
-        list: &[i32],
-        place: &mut [u8],
-    ) -> Result<(), FieldFault> {
-        if is_own::<K>(mode, submode) {
+    fn write(&self, modes: Modes, list: &[i32], place: &mut [u8]) -> Result<(), FieldFault> {
+        if is_own::<K>(modes) {
             self.kind.write(list, place)
         } else {
-            self.below.write(mode, submode, list, place)
+            self.below.write(modes, list, place)
         }
     }
 }
