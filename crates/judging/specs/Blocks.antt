@@ -8,33 +8,30 @@ use Rattle.judging.specs.declared.faults.BlockFault.{BlockFault}
 use Rattle.judging.specs.declared.faults.BlockFault.TheVariants.{Wire, Field}
 use Rattle.judging.specs.declared.blocks.Found.{Found}
 use Rattle.judging.specs.declared.places.Phase.{Phase}
-use Rattle.judging.specs.Places.{is_end, placed, placed_in}
+use Rattle.judging.specs.declared.places.Phase.TheVariants.{Shut}
+use Rattle.judging.specs.Places.{is_end, placed_in}
 
 -- the list that the book reads in the data field; the end is not put to it
 abbrev pub numbers_of : Meaning → Head → List ℕ → Result (List ℤ) BlockFault
 numbers_of M h bs =
-    cond (is_end h.mode h.submode) (Ok []) (blame Field (M.reading h.mode h.submode (field_of h bs)))
+    cond (is_end h.modes.mode h.modes.submode) (Ok []) (blame Field (M.reading h.modes.mode h.modes.submode (field_of h bs)))
 
 -- a block with its list
 pub record Judged : Type 0 where
   pub head : Head
   pub numbers : List ℤ
 
--- the block at the front of bs as block k
-unfoldable pub judged_block : Meaning → ℕ → List ℕ → Result Judged BlockFault
-judged_block M k bs = do
-  h ← blame Wire (read_head bs)
-  _ ← placed k h
-  l ← numbers_of M h bs
-  Ok (record { head = h; numbers = l })
-
--- the same in a product of that phase: an open one has no end
+-- the block at the front of bs as block k of a product in that phase: an open one has no end
 unfoldable pub judged_in : Phase → Meaning → ℕ → List ℕ → Result Judged BlockFault
 judged_in phase M k bs = do
   h ← blame Wire (read_head bs)
   _ ← placed_in phase k h
   l ← numbers_of M h bs
   Ok (record { head = h; numbers = l })
+
+-- as block k of a closed product
+abbrev pub judged_block : Meaning → ℕ → List ℕ → Result Judged BlockFault
+judged_block M k bs = judged_in Shut M k bs
 
 -- ---- the same with the count of its numbers
 abbrev pub tally : Result (List ℤ) BlockFault → Result ℕ BlockFault

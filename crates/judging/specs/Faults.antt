@@ -22,7 +22,7 @@ block_fault_number TooManyBlocks = 14
 
 -- at a block and its first byte
 abbrev pub located : ℕ → ℕ → BlockFault → ReceiptFault
-located k at f = record { fault = f; block = k; at = at }
+located k at f = record { fault = f; place = record { block = k; at = at } }
 
 -- of the other calls
 abbrev pub refusal_number : Refusal → ℕ

@@ -36,9 +36,9 @@ astray k mode submode = defines (class_of mode submode) && not (k == 1)
 -- whether a block may stand as block k
 abbrev pub placed : ℕ → Head → Result (Unit {0}) BlockFault
 placed k h = do
-  _ ← refuse (misplaced k h.mode h.submode) Misplaced
-  _ ← refuse (astray k h.mode h.submode) LateDefinition
-  refuse (is_end h.mode h.submode && nat_lt (fewest_pairs h.form) h.pairs) EndWithData
+  _ ← refuse (misplaced k h.modes.mode h.modes.submode) Misplaced
+  _ ← refuse (astray k h.modes.mode h.modes.submode) LateDefinition
+  refuse (is_end h.modes.mode h.modes.submode && nat_lt (fewest_pairs h.form) h.pairs) EndWithData
 
 -- an open product has no end
 abbrev pub bars_end : Phase → Bool
@@ -48,5 +48,5 @@ bars_end Shut = false
 -- whether a block may stand as block k of a product in that phase
 abbrev pub placed_in : Phase → ℕ → Head → Result (Unit {0}) BlockFault
 placed_in phase k h = do
-  _ ← refuse (bars_end phase && is_end h.mode h.submode) Misplaced
+  _ ← refuse (bars_end phase && is_end h.modes.mode h.modes.submode) Misplaced
   placed k h

@@ -1,10 +1,10 @@
 // One block where it stands.
-ghost use Rattle.judging.specs.Blocks.{counted_numbers, judged_block, judged_in, found};
+ghost use Rattle.judging.specs.Blocks.{counted_numbers, judged_in, found};
 ghost use Rattle.std.specs.Prelude.{◌≡◌, IfOk};
 ghost use Rattle.wire.specs.Blocks.{Framed};
 
 use crate::faults::BlockFault;
-use crate::places::{Phase, check_place, check_place_in, is_end};
+use crate::places::{Phase, check_place, is_end};
 use books::book::Book;
 use wire::blocks::{Head, read_head};
 
@@ -20,26 +20,16 @@ fn count_numbers<B: Book>(head: Head, bytes: &[u8], book: &B) -> Result<usize, B
     requires { Framed head bytes.now }
     ensures { result ≡ counted_numbers (B.meaning book.now) head bytes.now }
 {
-    if is_end(head.mode, head.submode) {
+    if is_end(head.modes) {
         return Ok(0);
     }
     let field = &bytes[4..head.field_end()];
-    Ok(book.judge(head.mode, head.submode, field)?)
-}
-
-/// Judges the block at the front of the bytes in its place.
-pub fn judge_block<B: Book>(bytes: &[u8], block: usize, book: &B) -> Result<Found, BlockFault>
-    ensures value { result ≡ found (judged_block (B.meaning book.now) block bytes.now) }
-    ensures fits { IfOk result (λ f. Framed f.head bytes.now) }
-{
-    let head = read_head(bytes)?;
-    check_place(block, head)?;
-    let numbers = count_numbers(head, bytes, book)?;
-    Ok(Found { head, numbers })
+    Ok(book.judge(head.modes, field)?)
 }
 
 /// Judges the block at the front of the bytes in its place in a product of that phase.
-pub fn judge_block_in<B: Book>(
+#[tactic(auto, unfolding(crate::specs::Blocks::judged_in))]
+pub fn judge_block<B: Book>(
     bytes: &[u8],
     phase: Phase,
     block: usize,
@@ -49,7 +39,7 @@ pub fn judge_block_in<B: Book>(
     ensures fits { IfOk result (λ f. Framed f.head bytes.now) }
 {
     let head = read_head(bytes)?;
-    check_place_in(phase, block, head)?;
+    check_place(phase, block, head)?;
     let numbers = count_numbers(head, bytes, book)?;
     Ok(Found { head, numbers })
 }

@@ -1,15 +1,16 @@
 // What is turned down, and where.
 ghost use Rattle.judging.specs.Faults.{block_fault_number, refusal_number, located, field_in, field_within};
 ghost use Rattle.judging.specs.declared.faults.BlockFault.TheVariants.{Wire, Field};
-ghost use Rattle.judging.specs.declared.faults.Refusal.TheVariants.{Block, NotHeld, List};
+ghost use Rattle.judging.specs.declared.faults.Refusal.TheVariants.{Block, NoSuchForm as NoForm, NotHeld, List};
 ghost use Rattle.wire.specs.Steps.{blame};
 ghost use Rattle.std.specs.Prelude.{◌≡◌};
 
 use books::faults::FieldFault;
 use wire::blocks::Malformed;
+use wire::forms::NoSuchForm;
 
 /// Why a received product is turned down.
-#[derive(Clone, Copy)]
+#[derive(Clone, Copy, PartialEq, Eq, Debug)]
 pub enum BlockFault {
     /// The count is above the memory or the limit of a product.
     Count,
@@ -75,16 +76,15 @@ impl From<FieldFault> for BlockFault {
     }
 }
 
-/// A fault with its block and that block's first byte.
-#[derive(Clone, Copy)]
+/// A fault and the block that has it.
+#[derive(Clone, Copy, PartialEq, Eq, Debug)]
 pub struct ReceiptFault {
     pub fault: BlockFault,
-    pub block: usize,
-    pub at: usize,
+    pub place: Place,
 }
 
 /// Where a block stands: its number and its first byte.
-#[derive(Clone, Copy)]
+#[derive(Clone, Copy, PartialEq, Eq, Debug)]
 pub struct Place {
     pub block: usize,
     pub at: usize,
@@ -94,21 +94,14 @@ impl Place {
     pub fn fault(self, fault: BlockFault) -> ReceiptFault
         ensures { result ≡ located self.block self.at fault }
     {
-        ReceiptFault {
-            fault,
-            block: self.block,
-            at: self.at,
-        }
+        ReceiptFault { fault, place: self }
     }
 
     /// What was found here, a fault with its place.
     pub fn locate<T>(self, found: Result<T, BlockFault>) -> Result<T, ReceiptFault>
         ensures { result ≡ blame (located self.block self.at) found }
     {
-        match found {
-            Ok(x) => Ok(x),
-            Err(fault) => Err(self.fault(fault)),
-        }
+        found.map_err(|fault| self.fault(fault))
     }
 }
 
@@ -117,16 +110,12 @@ impl From<BlockFault> for ReceiptFault {
     ghost from_gives = { λ f r. r ≡ located 0 0 f };
 
     fn from(fault: BlockFault) -> ReceiptFault {
-        ReceiptFault {
-            fault,
-            block: 0,
-            at: 0,
-        }
+        Place { block: 0, at: 0 }.fault(fault)
     }
 }
 
 /// Why a call on a product is turned down.
-#[derive(Clone, Copy)]
+#[derive(Clone, Copy, PartialEq, Eq, Debug)]
 pub enum Refusal {
     /// The block that a record would become may not stand in its place, or in no product at all.
     Block(BlockFault),
@@ -183,6 +172,14 @@ impl From<BlockFault> for Refusal {
 
     fn from(fault: BlockFault) -> Refusal {
         Refusal::Block(fault)
+    }
+}
+
+impl From<NoSuchForm> for Refusal {
+    ghost from_gives = { λ _ r. r ≡ NoForm };
+
+    fn from(_error: NoSuchForm) -> Refusal {
+        Self::NoSuchForm
     }
 }
 

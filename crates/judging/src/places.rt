@@ -1,14 +1,15 @@
 // Where a block may stand in a product.
-ghost use Rattle.judging.specs.Places.{defines, is_identification, is_end, misplaced, astray, bars_end, placed, placed_in};
+ghost use Rattle.judging.specs.Places.{defines, is_identification, is_end, misplaced, astray, bars_end, placed_in};
 ghost use Rattle.wire.specs.Classes.{class_of};
 ghost use Rattle.std.specs.Prelude.{◌≡◌};
 
 use crate::faults::BlockFault;
 use wire::blocks::Head;
 use wire::classes::Class;
+use wire::modes::Modes;
 
 /// Whether a product has its end.
-#[derive(Clone, Copy)]
+#[derive(Clone, Copy, PartialEq, Eq, Debug)]
 pub enum Phase {
     /// It is being mended, and has no end.
     Opened,
@@ -27,62 +28,69 @@ impl Phase {
     }
 }
 
+/// The mode and submode of the identification.
+pub const IDENTIFICATION: Modes = Modes {
+    mode: 1,
+    submode: 1,
+};
+
+/// The mode and submode of the end.
+pub const END: Modes = Modes {
+    mode: 1,
+    submode: 2,
+};
+
 /// Block 1/1.
-pub fn is_identification(mode: u8, submode: u8) -> bool
-    ensures { result ≡ is_identification mode submode }
+pub fn is_identification(modes: Modes) -> bool
+    ensures { result ≡ is_identification modes.mode modes.submode }
 {
-    mode == 1 && submode == 1
+    modes == IDENTIFICATION
 }
 
 /// Block 1/2.
-pub fn is_end(mode: u8, submode: u8) -> bool
-    ensures { result ≡ is_end mode submode }
+pub fn is_end(modes: Modes) -> bool
+    ensures { result ≡ is_end modes.mode modes.submode }
 {
-    mode == 1 && submode == 2
+    modes == END
 }
 
 /// The identification is not first, or another block is.
-pub fn is_misplaced(block: usize, mode: u8, submode: u8) -> bool
-    ensures { result ≡ misplaced block mode submode }
+#[tactic(auto, unfolding(crate::specs::Places::misplaced))]
+pub fn is_misplaced(block: usize, modes: Modes) -> bool
+    ensures { result ≡ misplaced block modes.mode modes.submode }
 {
-    (block == 0) != is_identification(mode, submode)
+    (block == 0) != is_identification(modes)
 }
 
-fn is_definition(mode: u8, submode: u8) -> bool
-    ensures { result ≡ defines (class_of mode submode) }
+fn is_definition(modes: Modes) -> bool
+    ensures { result ≡ defines (class_of modes.mode modes.submode) }
 {
-    matches!(Class::of(mode, submode), Class::Definition)
+    matches!(Class::of(modes), Class::Definition)
 }
 
 /// A definition that is not block 1.
-pub fn is_astray(block: usize, mode: u8, submode: u8) -> bool
-    ensures { result ≡ astray block mode submode }
+#[tactic(auto, unfolding(crate::specs::Places::astray))]
+pub fn is_astray(block: usize, modes: Modes) -> bool
+    ensures { result ≡ astray block modes.mode modes.submode }
 {
-    is_definition(mode, submode) && block != 1
-}
-
-/// Whether the block may stand as that block of a product.
-pub fn check_place(block: usize, head: Head) -> Result<(), BlockFault>
-    ensures { result ≡ placed block head }
-{
-    if is_misplaced(block, head.mode, head.submode) {
-        return Err(BlockFault::Misplaced);
-    }
-    if is_astray(block, head.mode, head.submode) {
-        return Err(BlockFault::LateDefinition);
-    }
-    if is_end(head.mode, head.submode) && head.pairs > head.form.fewest_pairs() {
-        return Err(BlockFault::EndWithData);
-    }
-    Ok(())
+    is_definition(modes) && block != 1
 }
 
 /// Whether the block may stand as that block of a product of that phase.
-pub fn check_place_in(phase: Phase, block: usize, head: Head) -> Result<(), BlockFault>
+pub fn check_place(phase: Phase, block: usize, head: Head) -> Result<(), BlockFault>
     ensures { result ≡ placed_in phase block head }
 {
-    if phase.bars_end() && is_end(head.mode, head.submode) {
+    if phase.bars_end() && is_end(head.modes) {
         return Err(BlockFault::Misplaced);
     }
-    check_place(block, head)
+    if is_misplaced(block, head.modes) {
+        return Err(BlockFault::Misplaced);
+    }
+    if is_astray(block, head.modes) {
+        return Err(BlockFault::LateDefinition);
+    }
+    if is_end(head.modes) && head.pairs > head.form.fewest_pairs() {
+        return Err(BlockFault::EndWithData);
+    }
+    Ok(())
 }

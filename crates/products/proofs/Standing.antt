@@ -22,11 +22,11 @@ pub record Stands (M : Meaning) (k : ℕ) (bs : List ℕ) (r : Record) : Type 0 
   pub accepted : Accepted M k bs block
   pub says : record_of block ≡ r
 
-at_end : (M : Meaning) (k : ℕ) (bs : List ℕ) (x : Judged) → Accepted M k bs x → is_end x.head.mode x.head.submode ≡ true → Stands M k bs (end_record x.head.form)
+at_end : (M : Meaning) (k : ℕ) (bs : List ℕ) (x : Judged) → Accepted M k bs x → is_end x.head.modes.mode x.head.modes.submode ≡ true → Stands M k bs (end_record x.head.form)
 at_end M k bs x a e =
     let m = and_parts _ _ e in
-    let mode : x.head.mode ≡ 1 = eqb-true _ _ m.0 in
-    let sub : x.head.submode ≡ 2 = eqb-true _ _ m.1 in
+    let mode : x.head.modes.mode ≡ 1 = eqb-true _ _ m.0 in
+    let sub : x.head.modes.submode ≡ 2 = eqb-true _ _ m.1 in
     let none = a.end_empty e in
     record { block = x; accepted = a; says = λ i. record { form = x.head.form; mode = mode i; submode = sub i; numbers = none i } }
 
@@ -34,7 +34,7 @@ at_end M k bs x a e =
 Reached : Meaning → ℕ → ℕ → List ℕ → Received → Type 0
 Reached M n k bs y = (j i : ℕ) → k + j ≡ i → j ≤ length y.records → Stands M i (behind j bs) (block_record y j)
 
-last_reached : (M : Meaning) (n k : ℕ) (bs : List ℕ) (x : Judged) → Accepted M k bs x → is_end x.head.mode x.head.submode ≡ true
+last_reached : (M : Meaning) (n k : ℕ) (bs : List ℕ) (x : Judged) → Accepted M k bs x → is_end x.head.modes.mode x.head.modes.submode ≡ true
     → Reached M n k bs (record { records = []; close = x.head.form })
 unfolding Reached behind
 last_reached M n k bs x a e zero i s l = subst (λ i. Stands M i bs (end_record x.head.form)) (omega arith) (at_end M k bs x a e)

@@ -21,7 +21,7 @@ use Rattle.products.specs.Receipts.{Received, before, record_of, ended, onward, 
 abbrev pub told : (ℕ → ℕ → List ℕ → Result Closed ReceiptFault) → ℕ → ℕ → ℕ → List ℕ → Result Found BlockFault → Result Closed ReceiptFault
 told next total k at bs (Err f) = Err (located k at f)
 told next total k at bs (Ok x) =
-    cond (is_end x.head.mode x.head.submode) (closed_as total k (ended k at bs x.head))
+    cond (is_end x.head.modes.mode x.head.modes.submode) (closed_as total k (ended k at bs x.head))
     (next (k + 1) (at + size x.head) (rest_of x.head bs))
 
 deeper : (total k : ℕ) (r : Record) (w : Result Received ReceiptFault) → closed_as total k (w >>= (λ y. Ok (before r y))) ≡ closed_as total (k + 1) w
@@ -35,7 +35,7 @@ turn false total k r e w = deeper total k r w
 
 walk_told : (M : Meaning) (total n k at : ℕ) (bs : List ℕ) (j : Result Judged BlockFault)
     → closed_as total k (blame (located k at) j >>= onward (closed_walk M n) k at bs) ≡ told (λ k at bs. closed_as total k (closed_walk M n k at bs)) total k at bs (found j)
-walk_told M total n k at bs (Ok x) = turn (is_end x.head.mode x.head.submode) total k (record_of x) (ended k at bs x.head) (closed_walk M n (k + 1) (at + size x.head) (rest_of x.head bs))
+walk_told M total n k at bs (Ok x) = turn (is_end x.head.modes.mode x.head.modes.submode) total k (record_of x) (ended k at bs x.head) (closed_walk M n (k + 1) (at + size x.head) (rest_of x.head bs))
 walk_told M total n k at bs (Err f) = refl
 
 pub walk_over : (M : Meaning) (total n k at : ℕ) (bs : List ℕ) → n ≡ 0 → closed_as total k (closed_walk M n k at bs) ≡ Err (located k at TooManyBlocks)
@@ -52,9 +52,9 @@ walk_at M total most k at bs h =
 
 -- ---- an accepted walk, turn by turn: block k is the end, or z follows it
 pub data Turn (M : Meaning) (n k at : ℕ) (bs : List ℕ) (y : Received) : Type 0 where
-  ends : (x : Judged) → Accepted M k bs x → is_end x.head.mode x.head.submode ≡ true → length bs ≤ size x.head
+  ends : (x : Judged) → Accepted M k bs x → is_end x.head.modes.mode x.head.modes.submode ≡ true → length bs ≤ size x.head
       → record { records = []; close = x.head.form } ≡ y → Turn M n k at bs y
-  goes : (x : Judged) (z : Received) → Accepted M k bs x → is_end x.head.mode x.head.submode ≡ false
+  goes : (x : Judged) (z : Received) → Accepted M k bs x → is_end x.head.modes.mode x.head.modes.submode ≡ false
       → closed_walk M n (k + 1) (at + size x.head) (rest_of x.head bs) ≡ Ok z → before (record_of x) z ≡ y → Turn M n k at bs y
 
 pub turn_back : (M : Meaning) (n k at : ℕ) (bs : List ℕ) (y : Received) → closed_walk M (suc n) k at bs ≡ Ok y → Turn M n k at bs y
@@ -63,7 +63,7 @@ turn_back M n k at bs y h =
     let p = went_on (blame (located k at) (judged_block M k bs)) _ h in
     let x = p.0 in
     let a = judged_back M k bs x (blameless (located k at) _ p.1) in
-    elim (cases_Bool (is_end x.head.mode x.head.submode)) [
+    elim (cases_Bool (is_end x.head.modes.mode x.head.modes.submode)) [
       | inl e ↦
           let q = passed (ltb (size x.head) (length bs)) _ _ (sym (cond-true _ _ _ e) ∙ p.2) in
           ends x a e (ltb-false _ _ q.0) (same_ok q.1)

@@ -26,24 +26,24 @@ bytes_field h bs ok = All-take Byte (field_end h - 4) (drop 4 bs) (All-drop Byte
 
 -- the end
 ending : (M : Meaning) (k : ℕ) (bs : List ℕ) (x : Judged) → Bytes bs → Accepted M k bs x
-    → is_end x.head.mode x.head.submode ≡ true → length bs ≤ size x.head → bs ≡ end_of x.head.form
+    → is_end x.head.modes.mode x.head.modes.submode ≡ true → length bs ≤ size x.head → bs ≡ end_of x.head.form
 ending M k bs x ok a e last =
     let m = and_parts _ _ e in
-    let mode : x.head.mode ≡ 1 = eqb-true _ _ m.0 in
-    let sub : x.head.submode ≡ 2 = eqb-true _ _ m.1 in
+    let mode : x.head.modes.mode ≡ 1 = eqb-true _ _ m.0 in
+    let sub : x.head.modes.submode ≡ 2 = eqb-true _ _ m.1 in
     let few = a.place.end_bare e in
     let none : field_end x.head - 4 ≡ 0 = omega arith in
     let field : field_of x.head bs ≡ [] = ap (λ n. take n (drop 4 bs)) none in
     let rest : rest_of x.head bs ≡ [] = drop_all (size x.head) bs last in
-    let block : block_bytes x.head.form x.head.mode x.head.submode (field_of x.head bs) ≡ end_of x.head.form = rw (mode, sub, field) refl in
+    let block : block_bytes x.head.form x.head.modes.mode x.head.modes.submode (field_of x.head bs) ≡ end_of x.head.form = rw (mode, sub, field) refl in
     (codec.decodes bs x.head ok a.head).whole ∙ ap₂ (λ b r. b ++ r) block rest ∙ append-nil (end_of x.head.form)
 
 module _ (M : Meaning) (L : Lawful M) where
   -- a record is written as the block that it was read from
-  again : (k : ℕ) (bs : List ℕ) (x : Judged) → Bytes bs → Accepted M k bs x → is_end x.head.mode x.head.submode ≡ false
+  again : (k : ℕ) (bs : List ℕ) (x : Judged) → Bytes bs → Accepted M k bs x → is_end x.head.modes.mode x.head.modes.submode ≡ false
       → bs ≡ block_of M (record_of x) ++ rest_of x.head bs
   again k bs x ok a e =
-      let w = (L x.head.mode x.head.submode).reads (field_of x.head bs) x.numbers (bytes_field x.head bs ok) (a.reads e) in
+      let w = (L x.head.modes.mode x.head.modes.submode).reads (field_of x.head bs) x.numbers (bytes_field x.head bs ok) (a.reads e) in
       (codec.decodes bs x.head ok a.head).whole ∙ ap (λ b. b ++ rest_of x.head bs) (sym (ap (λ u. block_with (record_of x) u) w))
 
   walked : (n k at : ℕ) (bs : List ℕ) (y : Received) → Bytes bs → closed_walk M n k at bs ≡ Ok y → bs ≡ closed_bytes M y

@@ -22,7 +22,7 @@ abbrev pub most_blocks : ℕ
 most_blocks = 1024
 
 abbrev pub record_of : Judged → Record
-record_of x = record { form = x.head.form; mode = x.head.mode; submode = x.head.submode; numbers = x.numbers }
+record_of x = record { form = x.head.form; mode = x.head.modes.mode; submode = x.head.modes.submode; numbers = x.numbers }
 
 -- what a product says: the records of its blocks without the end, and the form of the end
 pub record Received : Type 0 where
@@ -41,7 +41,7 @@ ended k at bs h = do
 -- from block k on, found in front of bs; `walk` takes what follows it
 abbrev pub onward : (ℕ → ℕ → List ℕ → Result Received ReceiptFault) → ℕ → ℕ → List ℕ → Judged → Result Received ReceiptFault
 onward walk k at bs x =
-    cond (is_end x.head.mode x.head.submode) (ended k at bs x.head) (do
+    cond (is_end x.head.modes.mode x.head.modes.submode) (ended k at bs x.head) (do
       y ← walk (k + 1) (at + size x.head) (rest_of x.head bs)
       Ok (before (record_of x) y))
 

@@ -12,11 +12,12 @@ use crate::closed::Closed;
 use crate::kept::Kept;
 use crate::opened::Open;
 use crate::places::{
-    bars_adding, bars_replacing, block_part, cut, end_size, is_crowded, put_block, put_end,
+    bars_adding, bars_replacing, block_part, check_room, cut, end_size, put_block, put_end,
 };
 use crate::receipt::MOST_BLOCKS;
 use books::book::Book;
 use judging::faults::{BlockFault, Refusal};
+use judging::places::IDENTIFICATION;
 use memory::Part;
 use records::drafts::{Draft, Record, check_record};
 use wire::forms::Form;
@@ -27,14 +28,12 @@ impl Open {
         ensures ready { IfOk result (λ d. Ready (B.meaning book.now) memory.now (of_open self.now) (adds (asked given.entry)) d (asked given.entry) self.now.bytes self.now.bytes (suc self.now.blocks)) }
     {
         self.check_held(memory, book)?;
-        let misfit = bars_adding(given.mode, given.submode);
+        let misfit = bars_adding(given.modes);
         let draft = check_record(given, self.blocks, misfit, book)?;
         if self.blocks >= MOST_BLOCKS - 1 {
             return Err(Refusal::NoMoreBlocks);
         }
-        if is_crowded(memory, self.bytes + draft.size, self.close) {
-            return Err(Refusal::NoRoom);
-        }
+        check_room(memory, self.bytes + draft.size, self.close)?;
         Ok(draft)
     }
 
@@ -73,13 +72,11 @@ impl Open {
         if block >= self.blocks {
             return Err(Refusal::NoSuchBlock);
         }
-        let misfit = bars_replacing(block, given.mode, given.submode);
+        let misfit = bars_replacing(block, given.modes);
         let draft = check_record(given, block, misfit, book)?;
         let part = block_part(&memory[0..self.bytes], block);
         let bytes = self.bytes - (part.to - part.from) + draft.size;
-        if is_crowded(memory, bytes, self.close) {
-            return Err(Refusal::NoRoom);
-        }
+        check_room(memory, bytes, self.close)?;
         Ok((part, draft))
     }
 
@@ -148,19 +145,14 @@ impl Open {
         ensures answer { result ≡ opened_by (started (B.meaning book.now) memory.old closing form numbers.now) }
         ensures after { memory.new ≡ memory_after (started (B.meaning book.now) memory.old closing form numbers.now) memory.old }
     {
-        let Some(close) = Form::of(u16::from(closing)) else {
-            return Err(Refusal::NoSuchForm);
-        };
+        let close = Form::try_from(u16::from(closing))?;
         let given = Record {
             form,
-            mode: 1,
-            submode: 1,
+            modes: IDENTIFICATION,
             numbers,
         };
         let draft = check_record(given, 0, false, book)?;
-        if is_crowded(memory, draft.size, close) {
-            return Err(Refusal::NoRoom);
-        }
+        check_room(memory, draft.size, close)?;
         let part = Part { from: 0, to: 0 };
         let bytes = put_block(memory, 0, part, given, draft, book)?;
         Ok(Open {
@@ -175,10 +167,7 @@ impl Open {
         ensures ready { OnOk result (Planned (B.meaning book.now) memory.now (of_open self.now) closes (end_of self.now.close) self.now.bytes self.now.bytes (suc self.now.blocks)) }
     {
         self.check_held(memory, book)?;
-        if is_crowded(memory, self.bytes, self.close) {
-            return Err(Refusal::NoRoom);
-        }
-        Ok(())
+        check_room(memory, self.bytes, self.close)
     }
 
     /// Writes the end, or hands the product back.

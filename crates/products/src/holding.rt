@@ -20,7 +20,7 @@ impl Closed {
         ensures some { OnOk result (1 ≤ self.now.blocks) }
     {
         let found = Closed::receive(memory, self.bytes, book)?;
-        if found.blocks != self.blocks || found.close.number() != self.close.number() {
+        if found.blocks != self.blocks || found.close != self.close {
             let last = Place {
                 block: found.blocks - 1,
                 at: self

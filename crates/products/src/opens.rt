@@ -5,7 +5,7 @@ ghost use Rattle.std.specs.Prelude.{◌≡◌, ◌≤◌, length, OnOk};
 
 use crate::receipt::{MOST_BLOCKS, check_count};
 use books::book::Book;
-use judging::blocks::judge_block_in;
+use judging::blocks::judge_block;
 use judging::faults::{BlockFault, Place, ReceiptFault};
 use judging::places::Phase;
 
@@ -19,7 +19,7 @@ fn walk_open<B: Book>(bytes: &[u8], blocks: usize, book: &B) -> Result<(), Recei
         if block >= MOST_BLOCKS {
             return Err(place.fault(BlockFault::TooManyBlocks));
         }
-        let found = place.locate(judge_block_in(&bytes[at..], Phase::Opened, block, book))?;
+        let found = place.locate(judge_block(&bytes[at..], Phase::Opened, block, book))?;
         at += found.head.size();
         last = place;
     }

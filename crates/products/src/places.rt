@@ -3,21 +3,24 @@ ghost use Rattle.books.specs.Books.{weighed};
 ghost use Rattle.memory.specs.Laid.{spliced, rewritten};
 ghost use Rattle.products.specs.Calls.{crowded, bars_adding, bars_replacing};
 ghost use Rattle.products.specs.Closings.{end_of};
+ghost use Rattle.judging.specs.declared.faults.Refusal.TheVariants.{NoRoom};
 ghost use Rattle.records.specs.Asked.{asked};
 ghost use Rattle.records.specs.Drafts.{drafts};
 ghost use Rattle.records.specs.Records.{block_writing, block_of};
 ghost use Rattle.std.specs.Prelude.{◌≡◌, suc, ◌+◌, ◌-◌, ◌≤◌, [], length, take, Ok};
 ghost use Rattle.wire.specs.Rows.{start_of};
+ghost use Rattle.wire.specs.Steps.{refuse};
 
 use crate::receipt::MOST_BYTES;
 use books::book::Book;
 use books::plain::PlainWords;
 use judging::faults::Refusal;
-use judging::places::{is_end, is_identification, is_misplaced};
+use judging::places::{END, is_end, is_identification, is_misplaced};
 use memory::{Part, make_gap};
 use records::drafts::{Draft, Record};
 use records::writing::write_block;
 use wire::forms::Form;
+use wire::modes::Modes;
 use wire::rows::skip_blocks;
 
 /// How many bytes the end takes.
@@ -43,26 +46,29 @@ pub(crate) fn block_part(bytes: &[u8], block: usize) -> Part
     }
 }
 
-/// Whether a product of so many bytes has no place for its end.
-pub(crate) fn is_crowded(memory: &[u8], bytes: usize, close: Form) -> bool
+/// Refuses a product of so many bytes that has no place for its end.
+pub(crate) fn check_room(memory: &[u8], bytes: usize, close: Form) -> Result<(), Refusal>
     requires { bytes ≤ 131072 }
-    ensures { result ≡ crowded memory.now close bytes }
+    ensures { result ≡ refuse (crowded memory.now close bytes) NoRoom }
 {
-    bytes + end_size(close) > memory.len().min(MOST_BYTES)
+    if bytes + end_size(close) > memory.len().min(MOST_BYTES) {
+        return Err(Refusal::NoRoom);
+    }
+    Ok(())
 }
 
 /// Whether a record may be added to no product: the identification and the end have their own places.
-pub(crate) fn bars_adding(mode: u8, submode: u8) -> bool
-    ensures { result ≡ bars_adding mode submode }
+pub(crate) fn bars_adding(modes: Modes) -> bool
+    ensures { result ≡ bars_adding modes.mode modes.submode }
 {
-    is_identification(mode, submode) || is_end(mode, submode)
+    is_identification(modes) || is_end(modes)
 }
 
 /// Whether a record may not stand in the place of that block.
-pub(crate) fn bars_replacing(block: usize, mode: u8, submode: u8) -> bool
-    ensures { result ≡ bars_replacing block mode submode }
+pub(crate) fn bars_replacing(block: usize, modes: Modes) -> bool
+    ensures { result ≡ bars_replacing block modes.mode modes.submode }
 {
-    is_misplaced(block, mode, submode) || is_end(mode, submode)
+    is_misplaced(block, modes) || is_end(modes)
 }
 
 /// Puts the block of a record in the place of a part of a product's bytes, and tells how many it then has.
@@ -82,19 +88,10 @@ pub(crate) fn put_block<B: Book>(
     ensures answer { result ≡ Ok ((used - (part.to - part.from)) + draft.size) }
     ensures after { memory.new ≡ rewritten (spliced part.from part.to (block_of (B.meaning book.now) (drafts draft (asked given.entry))) (take used memory.old)) used memory.old }
 {
-    if !make_gap(memory, used, part, draft.size) {
-        return Err(Refusal::NoRoom);
-    }
+    make_gap(memory, used, part, draft.size).map_err(|_| Refusal::NoRoom)?;
     let from = part.from;
     let place = &mut memory[from..from + draft.size];
-    write_block(
-        place,
-        draft.form,
-        given.mode,
-        given.submode,
-        given.numbers,
-        book,
-    )?;
+    write_block(place, draft.form, given, book)?;
     Ok(used - (part.to - part.from) + draft.size)
 }
 
@@ -107,8 +104,7 @@ pub(crate) fn put_end(memory: &mut [u8], used: usize, close: Form) -> Result<usi
     // An empty list is empty data under plain words, whatever the product's book would say of 1/2.
     let given = Record {
         form: close.number(),
-        mode: 1,
-        submode: 2,
+        modes: END,
         numbers: &[],
     };
     let draft = Draft {
@@ -130,8 +126,6 @@ pub(crate) fn cut(memory: &mut [u8], used: usize, part: Part) -> Result<usize, R
     ensures answer { result ≡ Ok (used - (part.to - part.from)) }
     ensures after { memory.new ≡ rewritten (spliced part.from part.to [] (take used memory.old)) used memory.old }
 {
-    if !make_gap(memory, used, part, 0) {
-        return Err(Refusal::NoRoom);
-    }
+    make_gap(memory, used, part, 0).map_err(|_| Refusal::NoRoom)?;
     Ok(used - (part.to - part.from))
 }

@@ -7,7 +7,7 @@ use crate::closed::Closed;
 use books::book::Book;
 use judging::blocks::judge_block;
 use judging::faults::{BlockFault, Place, ReceiptFault};
-use judging::places::is_end;
+use judging::places::{Phase, is_end};
 use wire::pairs::bytes_known;
 
 /// The most bytes of a product.
@@ -35,8 +35,8 @@ fn walk_blocks<B: Book>(bytes: &[u8], book: &B) -> Result<Closed, ReceiptFault>
     for block in 0..MOST_BLOCKS {
         let rest = &bytes[at..];
         let place = Place { block, at };
-        let head = place.locate(judge_block(rest, block, book))?.head;
-        if is_end(head.mode, head.submode) {
+        let head = place.locate(judge_block(rest, Phase::Shut, block, book))?.head;
+        if is_end(head.modes) {
             if head.size() < rest.len() {
                 return Err(place.fault(BlockFault::Leftover));
             }

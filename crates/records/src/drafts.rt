@@ -12,13 +12,13 @@ use judging::faults::{BlockFault, Refusal};
 use judging::places::is_astray;
 use wire::blocks::{MOST_MODE, MOST_PAIRS, Malformed};
 use wire::forms::Form;
+use wire::modes::Modes;
 
 /// What a caller wants written: a form by its number, a mode, a submode and a list.
 #[derive(Clone, Copy)]
 pub struct Record<'a> {
     pub form: u8,
-    pub mode: u8,
-    pub submode: u8,
+    pub modes: Modes,
     pub numbers: &'a [i32],
 }
 
@@ -37,6 +37,7 @@ fn most_data(form: Form) -> usize
 }
 
 /// Checks a record that would become that block of a product; `misfit` says that it may not stand there.
+#[tactic(auto, unfolding(crate::specs::Drafts::drafted))]
 pub fn check_record<B: Book>(
     given: Record,
     block: usize,
@@ -48,19 +49,17 @@ pub fn check_record<B: Book>(
     ensures short { IfOk result (λ d. d.size ≤ 2 * most_pairs) }
 {
     numbers_known(given.numbers);
-    let Some(form) = Form::of(u16::from(given.form)) else {
-        return Err(Refusal::NoSuchForm);
-    };
-    if given.mode > MOST_MODE {
+    let form = Form::try_from(u16::from(given.form))?;
+    if given.modes.mode > MOST_MODE {
         return Err(Refusal::Block(BlockFault::Wire(Malformed::Mode)));
     }
     if misfit {
         return Err(Refusal::Block(BlockFault::Misplaced));
     }
-    if is_astray(block, given.mode, given.submode) {
+    if is_astray(block, given.modes) {
         return Err(Refusal::Block(BlockFault::LateDefinition));
     }
-    let weight = book.weigh(given.mode, given.submode, given.numbers)?;
+    let weight = book.weigh(given.modes, given.numbers)?;
     if weight > most_data(form) {
         return Err(Refusal::DataTooLong);
     }

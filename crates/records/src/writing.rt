@@ -6,21 +6,23 @@ ghost use Rattle.wire.specs.Pairs.{pair_bytes};
 ghost use Rattle.wire.specs.declared.forms.Form.TheVariants.{Checksummed};
 ghost use Rattle.std.specs.Prelude.{◌≡◌, ◌+◌, ◌*◌, ◌/◌, ◌≤◌, ◌∷◌, ◌++◌, length, drop};
 
+use crate::drafts::Record;
 use books::book::Book;
 use books::faults::{FieldFault, Rule};
 use books::known::numbers_known;
 use wire::forms::Form;
+use wire::modes::Modes;
 use wire::pairs::sum_pairs;
 
 /// Writes the first two pairs of a block as long as the place.
-fn put_head(place: &mut [u8], form: Form, mode: u8, submode: u8)
+fn put_head(place: &mut [u8], form: Form, modes: Modes)
     requires least { 4 ≤ length place.old }
     requires most { length place.old ≤ 4100 }
-    ensures { place.new ≡ pair_bytes (form_number form * 16384 + length place.old / 2) ++ (mode ∷ (submode ∷ drop 4 place.old)) }
+    ensures { place.new ≡ pair_bytes (form_number form * 16384 + length place.old / 2) ++ (modes.mode ∷ (modes.submode ∷ drop 4 place.old)) }
 {
     let first = u16::from(form.number()) * 16_384 + (place.len() / 2) as u16;
     let [left, right] = first.to_be_bytes();
-    place[0..4].copy_from_slice(&[left, right, mode, submode]);
+    place[0..4].copy_from_slice(&[left, right, modes.mode, modes.submode]);
 }
 
 /// Ends the block with the pair that brings the sum of all pairs to 0.
@@ -45,28 +47,23 @@ fn put_end(place: &mut [u8], form: Form)
     }
 }
 
-/// Writes a record as its block into a place of just its bytes; a refusal leaves the place as it was.
+/// Writes a record in that form as its block into a place of just its bytes; a refusal leaves the place as it was.
 pub fn write_block<B: Book>(
     place: &mut [u8],
     form: Form,
-    mode: u8,
-    submode: u8,
-    numbers: &[i32],
+    given: Record,
     book: &B,
 ) -> Result<(), FieldFault>
-    ensures answer { result ≡ answered (block_writing (B.meaning book.now) (says form mode submode numbers.now)) place.old }
-    ensures after { place.new ≡ placed (block_writing (B.meaning book.now) (says form mode submode numbers.now)) place.old }
+    ensures answer { result ≡ answered (block_writing (B.meaning book.now) (says form given.entry.modes.mode given.entry.modes.submode given.entry.numbers.now)) place.old }
+    ensures after { place.new ≡ placed (block_writing (B.meaning book.now) (says form given.entry.modes.mode given.entry.modes.submode given.entry.numbers.now)) place.old }
 {
-    numbers_known(numbers);
-    let weight = book.weigh(mode, submode, numbers)?;
+    numbers_known(given.numbers);
+    let weight = book.weigh(given.modes, given.numbers)?;
     if place.len() != 2 * usize::from(form.fewest_pairs()) + weight {
-        return Err(FieldFault {
-            rule: Rule::DataLength,
-            place: place.len(),
-        });
+        return Err(Rule::DataLength.at(place.len()));
     }
-    book.write(mode, submode, numbers, &mut place[4..4 + weight])?;
-    put_head(place, form, mode, submode);
+    book.write(given.modes, given.numbers, &mut place[4..4 + weight])?;
+    put_head(place, form, given.modes);
     put_end(place, form);
     Ok(())
 }

@@ -16,6 +16,10 @@ pub allowed : {E : Type 0} (b : Bool) (e : E) {u : Unit {0}} → refuse b e ≡ 
 allowed true e h = absurd (let z : ◌≡◌ {A = ℕ} 0 1 = cc in omega arith)
 allowed false e h = refl
 
+pub turned_down : {E : Type 0} (b : Bool) (e : E) {f : E} → refuse b e ≡ Err f → (b ≡ true) × (f ≡ e)
+turned_down true e h = (refl, cc)
+turned_down false e h = absurd (let z : ◌≡◌ {A = ℕ} 0 1 = cc in omega arith)
+
 pub went_on : {A B E : Type 0} (m : Result A E) (k : A → Result B E) {x : B} → (m >>= k) ≡ Ok x → (a : A) × (m ≡ Ok a) × (k a ≡ Ok x)
 went_on (Ok a) k h = (a, refl, h)
 went_on (Err e) k h = absurd (let z : ◌≡◌ {A = ℕ} 0 1 = cc in omega arith)
@@ -29,6 +33,3 @@ not_blamed f m h = rw h refl
 
 pub same_ok : {A E : Type 0} {a b : A} → ◌≡◌ {A = Result A E} (Ok a) (Ok b) → a ≡ b
 same_ok h = cc
-
-pub from_there : {A B E : Type 0} (m : Result A E) (a : A) (k : A → Result B E) {y : Result B E} → m ≡ Ok a → (m >>= k) ≡ y → k a ≡ y
-from_there m a k e h = sym (go_on m a k e refl) ∙ h

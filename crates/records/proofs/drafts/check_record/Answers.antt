@@ -4,45 +4,20 @@ use Rattle.wire.proofs.Coding.{checksum_fits}
 use Rattle.judging.specs.Places.{astray}
 use Rattle.records.specs.Records.{says, gives}
 use Rattle.records.proofs.Sizes.{weighed_back, block_weight, draft_made}
-use Rattle.records.specs.Drafts.{drafted}
 use Rattle.records.proofs.drafts.check_record.Goals as goal
-
-pub returns-in_default : goal.returns-in_default
-unfolding drafted
-returns-in_default g c = search rules
-
-pub returns-then-given-gt-MOST_MODE : goal.returns-then-given-gt-MOST_MODE
-unfolding drafted
-returns-then-given-gt-MOST_MODE g c = search rules
-
-pub returns-then-misfit : goal.returns-then-misfit
-unfolding drafted
-returns-then-misfit g c = search rules
-
-pub returns-then-is_astray : goal.returns-then-is_astray
-unfolding drafted
-returns-then-is_astray g c = search rules
-
-pub returns-in_err-weight : goal.returns-in_err-weight
-unfolding drafted
-returns-in_err-weight g c = search rules
-
-pub returns-then-weight-most_data : goal.returns-then-weight-most_data
-unfolding drafted
-returns-then-weight-most_data g c = search rules
 
 pub returns : goal.returns
 returns g c =
     let M = g.B.Book.meaning c.args.book.now in
     let given = c.args.given in
-    let form = c.in-Some.form in
-    let w = weighed_back M (g.B.Book.lawful c.args.book.now) (says form given.mode given.submode given.numbers.now) _ _ c.numbers_known.ensures c.weigh.ensures c.in_ok-weight.was in
+    let form = c.in_ok-form.form in
+    let w = weighed_back M (g.B.Book.lawful c.args.book.now) (says form given.modes.mode given.modes.submode given.numbers.now) _ _ c.numbers_known.ensures c.weigh.ensures c.in_ok-weight.was in
     let e15 : form_of given.form ≡ Some form = search rules in
-    let e10 : astray c.args.block given.mode given.submode ≡ false = search rules in
-    let made = draft_made M c.args.block c.args.misfit (gives given.form given.mode given.submode given.numbers.now) form c.in_ok-weight.weight w e15 (omega arith) c.if-misfit.false e10 (omega arith) in
+    let e10 : astray c.args.block given.modes.mode given.modes.submode ≡ false = search rules in
+    let made = draft_made M c.args.block c.args.misfit (gives given.form given.modes.mode given.modes.submode given.numbers.now) form c.in_ok-weight.weight w e15 (omega arith) c.if-misfit.false e10 (omega arith) in
     let few = c.from-2.ensures ∙ c.fewest_pairs.ensures in
     record {
       value = ap (λ n. Ok (record { form = form; size = 2 * n + c.in_ok-weight.weight })) few ∙ sym made;
-      fits = block_weight M (says form given.mode given.submode given.numbers.now) _ w ∙ ap (λ n. Ok (2 * n + c.in_ok-weight.weight)) (sym few);
+      fits = block_weight M (says form given.modes.mode given.modes.submode given.numbers.now) _ w ∙ ap (λ n. Ok (2 * n + c.in_ok-weight.weight)) (sym few);
       short = omega (arith, few, checksum_fits form);
     }

@@ -1,4 +1,4 @@
-use Rattle.std.proofs.Common.{◌≡◌, ◌+◌, ◌*◌, ◌%◌, ◌≤◌, length, sym, ap, ◌∙◌, arith, rules}
+use Rattle.std.proofs.Common.{◌≡◌, ◌+◌, ◌*◌, ◌%◌, ◌≤◌, Err, length, sym, ap, ◌∙◌, arith, rules}
 use Rattle.wire.specs.Forms.{fewest_pairs}
 use Rattle.wire.proofs.Coding.{checksum_fits}
 use Rattle.books.specs.Books.{most_bytes}
@@ -9,30 +9,30 @@ use Rattle.records.proofs.writing.write_block.Goals as goal
 
 pub overflow_add-from : goal.overflow_add-from
 overflow_add-from g c =
-    let w = weighed_back (g.B.Book.meaning c.args.book.now) (g.B.Book.lawful c.args.book.now) (says c.args.form c.args.mode c.args.submode c.args.numbers.now) _ _ c.numbers_known.ensures c.weigh.ensures c.in_ok-weight.was in
+    let w = weighed_back (g.B.Book.meaning c.args.book.now) (g.B.Book.lawful c.args.book.now) (says c.args.form c.args.given.modes.mode c.args.given.modes.submode c.args.given.numbers.now) _ _ c.numbers_known.ensures c.weigh.ensures c.in_ok-weight.was in
     let short : c.in_ok-weight.weight ≤ most_bytes = w.short in
     search rules
 
 pub returns-then-place-from : goal.returns-then-place-from
 returns-then-place-from g c =
-    let r = says c.args.form c.args.mode c.args.submode c.args.numbers.now in
+    let r = says c.args.form c.args.given.modes.mode c.args.given.modes.submode c.args.given.numbers.now in
     let M = g.B.Book.meaning c.args.book.now in
     let w = weighed_back M (g.B.Book.lawful c.args.book.now) r _ _ c.numbers_known.ensures c.weigh.ensures c.in_ok-weight.was in
     let few = c.from.ensures ∙ c.fewest_pairs.ensures in
     let other : length c.args.place.now ≡ 2 * fewest_pairs c.args.form + c.in_ok-weight.weight → ⊥ = λ e. c.if-place-from.true (e ∙ ap (λ n. 2 * n + c.in_ok-weight.weight) (sym few)) in
-    record { answer = sym (other_answer M r _ w c.args.place.now other); after = sym (other_place M r _ w c.args.place.now other) }
+    record { answer = ap Err c.at.ensures ∙ sym (other_answer M r _ w c.args.place.now other); after = sym (other_place M r _ w c.args.place.now other) }
 
 pub put_head-requires : goal.put_head-requires
 put_head-requires g c =
     let place = c.args.place.now in
     let n = c.in_ok-weight.weight in
-    let r = says c.args.form c.args.mode c.args.submode c.args.numbers.now in
+    let r = says c.args.form c.args.given.modes.mode c.args.given.modes.submode c.args.given.numbers.now in
     let M = g.B.Book.meaning c.args.book.now in
     let w = weighed_back M (g.B.Book.lawful c.args.book.now) r _ _ c.numbers_known.ensures c.weigh.ensures c.in_ok-weight.was in
     let few = c.from.ensures ∙ c.fewest_pairs.ensures in
     let room : length place ≡ 2 * fewest_pairs c.args.form + n = c.if-place-from.false ∙ ap (λ j. 2 * j + n) few in
     let y = same_field M r _ w place _ _ _ c.write.ensures.answer c.in_ok-write.was c.write.ensures.after in
-    let l = middle_length c.args.form c.args.mode c.args.submode w.field place (omega (arith, w.even, w.long)) (omega (arith, w.long, room)) n _ (sym w.long) y in
+    let l = middle_length c.args.form c.args.given.modes.mode c.args.given.modes.submode w.field place (omega (arith, w.even, w.long)) (omega (arith, w.long, room)) n _ (sym w.long) y in
     let few_pairs = checksum_fits c.args.form in
     record { least = omega (arith, l, room); most = omega (arith, l, room, w.short, few_pairs) }
 
@@ -40,7 +40,7 @@ pub returns : goal.returns
 returns g c =
     let place = c.args.place.now in
     let n = c.in_ok-weight.weight in
-    let r = says c.args.form c.args.mode c.args.submode c.args.numbers.now in
+    let r = says c.args.form c.args.given.modes.mode c.args.given.modes.submode c.args.given.numbers.now in
     let M = g.B.Book.meaning c.args.book.now in
     let w = weighed_back M (g.B.Book.lawful c.args.book.now) r _ _ c.numbers_known.ensures c.weigh.ensures c.in_ok-weight.was in
     let few = c.from.ensures ∙ c.fewest_pairs.ensures in
@@ -48,8 +48,8 @@ returns g c =
     let y = same_field M r _ w place _ _ _ c.write.ensures.answer c.in_ok-write.was c.write.ensures.after in
     let even : length w.field % 2 ≡ 0 = omega (arith, w.even, w.long) in
     let whole : length place ≡ 2 * fewest_pairs c.args.form + length w.field = omega (arith, w.long, room) in
-    let p = c.put_head.ensures ∙ headed c.args.form c.args.mode c.args.submode w.field place even whole n _ (sym w.long) y in
+    let p = c.put_head.ensures ∙ headed c.args.form c.args.given.modes.mode c.args.given.modes.submode w.field place even whole n _ (sym w.long) y in
     record {
       answer = sym (fits_answer M r n w place room);
-      after = ended c.args.form c.args.mode c.args.submode w.field place even whole _ _ p c.put_end.ensures ∙ sym (fits_place M r n w place room);
+      after = ended c.args.form c.args.given.modes.mode c.args.given.modes.submode w.field place even whole _ _ p c.put_end.ensures ∙ sym (fits_place M r n w place room);
     }

@@ -4,7 +4,7 @@ use Rattle.products.specs.Holding.{held, is_held}
 use Rattle.products.proofs.Held.{end_length, is_held_within, is_held_passes, held_back, held_ended}
 use Rattle.products.proofs.Opening.{passed_by}
 use Rattle.products.proofs.closed.Closed.check_held.Goals as goal
-use Rattle.products.proofs.closed.Closed.check_held.Goals.{then-found-self-via-then-found-self, then-found-self-via-else-found-self+then-number}
+use Rattle.products.proofs.closed.Closed.check_held.Goals.{then-found-self-via-then-found-self, then-found-self-via-else-found-self+then-ne}
 
 pub returns-in_err-found : goal.returns-in_err-found
 unfolding held
@@ -15,7 +15,7 @@ unfolding held
 returns-then-found-self g c =
     elim c.then-found-self.branch [
       | then-found-self-via-then-found-self w ↦ search (rules, end_length)
-      | then-found-self-via-else-found-self+then-number w ↦ search (rules, end_length)
+      | then-found-self-via-else-found-self+then-ne w ↦ search (rules, end_length)
     ]
 
 pub returns : goal.returns

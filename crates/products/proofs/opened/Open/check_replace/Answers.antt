@@ -1,4 +1,6 @@
-use Rattle.std.proofs.Common.{sym, ap, rules}
+use Rattle.std.proofs.Common.{Err, sym, ap, ◌∙◌, rules}
+use Rattle.wire.proofs.Passing.{allowed, turned_down}
+use Rattle.judging.specs.declared.faults.Refusal.TheVariants.{NoRoom}
 use Rattle.products.specs.Opens.{passes}
 use Rattle.records.specs.Asked.{asked}
 use Rattle.products.specs.Calls.{outcome, mended}
@@ -17,16 +19,19 @@ pub returns-in_err-draft : goal.returns-in_err-draft
 unfolding outcome mended
 returns-in_err-draft g c = search rules
 
-pub returns-then-is_crowded : goal.returns-then-is_crowded
-returns-then-is_crowded g c =
+pub returns-in_err-check_room-clause-answer : goal.returns-in_err-check_room-clause-answer
+returns-in_err-check_room-clause-answer g c =
     let h = c.in_ok-check_held.ensures in
     let b = c.block_part-part.ensures in
-    let full = replace_crowded _ c.args.memory.now c.args.self.now _ _ c.check_held.ensures.value c.in_ok-check_held.was h.within h.few c.args.block c.block_part-part.result b.from b.to b.forward b.within c.if-block-self.false (asked c.args.given) c.in_ok-draft.draft _ c.bars_replacing-misfit.ensures _ c.check_record.ensures.value c.in_ok-draft.was c.in_ok-draft.ensures.fits (sym c.if-is_crowded.ensures) in
-    record { answer = sym (ap passes full); ready = tt }
+    let t = turned_down _ NoRoom (sym c.check_room.ensures ∙ c.in_err-check_room.was) in
+    let full = replace_crowded _ c.args.memory.now c.args.self.now _ _ c.check_held.ensures.value c.in_ok-check_held.was h.within h.few c.args.block c.block_part-part.result b.from b.to b.forward b.within c.if-block-self.false (asked c.args.given) c.in_ok-draft.draft _ c.bars_replacing-misfit.ensures _ c.check_record.ensures.value c.in_ok-draft.was c.in_ok-draft.ensures.fits t.0 in
+    let told = ap passes full in
+    let is = t.1 in
+    search rules
 
 pub returns : goal.returns
 returns g c =
     let h = c.in_ok-check_held.ensures in
     let b = c.block_part-part.ensures in
-    let ready = replace_ready _ c.args.memory.now c.args.self.now _ _ c.check_held.ensures.value c.in_ok-check_held.was h.within h.few c.args.block c.block_part-part.result b.from b.to b.forward b.within c.if-block-self.false (asked c.args.given) c.in_ok-draft.draft _ c.bars_replacing-misfit.ensures _ c.check_record.ensures.value c.in_ok-draft.was c.in_ok-draft.ensures.fits (sym c.if-is_crowded.ensures) in
+    let ready = replace_ready _ c.args.memory.now c.args.self.now _ _ c.check_held.ensures.value c.in_ok-check_held.was h.within h.few c.args.block c.block_part-part.result b.from b.to b.forward b.within c.if-block-self.false (asked c.args.given) c.in_ok-draft.draft _ c.bars_replacing-misfit.ensures _ c.check_record.ensures.value c.in_ok-draft.was c.in_ok-draft.ensures.fits (allowed _ NoRoom (sym c.check_room.ensures ∙ c.in_ok-check_room.was)) in
     record { answer = sym (ap passes ready.planned.result); ready = ready }
