@@ -19,7 +19,7 @@ use Rattle.judging.specs.declared.places.Phase.TheVariants.{Opened, Shut}
 use Rattle.judging.specs.declared.faults.BlockFault.TheVariants.{Field, EndWithData}
 use Rattle.judging.specs.Blocks.{Judged, judged_block, judged_in, numbers_of}
 use Rattle.judging.specs.Places.{is_end, misplaced, astray, bars_end}
-use Rattle.judging.proofs.Judged.{Accepted, judged_shut}
+use Rattle.judging.proofs.Judged.{Accepted}
 use Rattle.records.specs.Records.{Record, block_with, block_of}
 use Rattle.products.specs.Receipts.{Received, record_of, ended, closed_walk, most_blocks}
 use Rattle.products.specs.Closings.{blocks_of, end_of}
@@ -115,7 +115,7 @@ module _ (M : Meaning) (L : Lawful M) where
   end_there f = record { head = head_of f 1 2 []; numbers = [] }
 
   end_judged : (k : ℕ) (f : Form) → 1 ≤ k → judged_block M k (end_of f) ≡ Ok (end_there f)
-  unfolding judged_block
+  unfolding judged_in
   end_judged k f h =
       let z = codec.encodes f 1 2 [] [] (end_sized f) in
       let read : read_head (end_of f) ≡ Ok (head_of f 1 2 []) = ap read_head (sym (append-nil (end_of f))) ∙ z.head in
@@ -137,7 +137,7 @@ module _ (M : Meaning) (L : Lawful M) where
       let more = blocks_of M rs ++ end_of f in
       let e = rest_there M k r g.0 more in
       ap (closed_walk M (suc n) k at) (append_assoc (block_of M r) (blocks_of M rs) (end_of f))
-      ∙ go_on _ _ _ (not_blamed _ _ (sym (judged_shut M k _) ∙ judged_there M k r g.0 L Shut more))
+      ∙ go_on _ _ _ (not_blamed _ _ (judged_there M k r g.0 L Shut more))
       (cond-false _ _ _ g.0.inner
       ∙ go_on _ _ _ (ap (closed_walk M n (k + 1) (at + size (head_there M k r g.0))) e
       ∙ ap (λ i. closed_walk M n i (at + size (head_there M k r g.0)) more) (omega arith)
@@ -153,9 +153,9 @@ module _ (M : Meaning) (L : Lawful M) where
     pub good : Good M k y.records
     pub begun : 1 ≤ k + length y.records
 
-  fits_back : (k : ℕ) (bs : List ℕ) (x : Judged) → Bytes bs → Accepted M k bs x → is_end x.head.mode x.head.submode ≡ false → Fits M k (record_of x)
+  fits_back : (k : ℕ) (bs : List ℕ) (x : Judged) → Bytes bs → Accepted M k bs x → is_end x.head.modes.mode x.head.modes.submode ≡ false → Fits M k (record_of x)
   fits_back k bs x ok a e =
-      let law = L x.head.mode x.head.submode in
+      let law = L x.head.modes.mode x.head.modes.submode in
       let field = bytes_field x.head bs ok in
       record {
         field = field_of x.head bs;
@@ -167,7 +167,7 @@ module _ (M : Meaning) (L : Lawful M) where
         numbers = law.numbers (field_of x.head bs) x.numbers field (a.reads e);
       }
 
-  end_row : (k : ℕ) (bs : List ℕ) (x : Judged) → Accepted M k bs x → is_end x.head.mode x.head.submode ≡ true → Row k (record { records = []; close = x.head.form })
+  end_row : (k : ℕ) (bs : List ℕ) (x : Judged) → Accepted M k bs x → is_end x.head.modes.mode x.head.modes.submode ≡ true → Row k (record { records = []; close = x.head.form })
   end_row k bs x a e =
       let m = and_parts _ _ e in
       let there = ap₂ (misplaced k) (sym (eqb-true _ _ m.0)) (sym (eqb-true _ _ m.1)) ∙ a.place.in_place in

@@ -9,7 +9,7 @@ use Rattle.books.specs.declared.faults.Rule.TheVariants.{NumberRange}
 use Rattle.books.specs.Faults.{fault_at}
 use Rattle.judging.specs.declared.faults.Refusal.TheVariants.{List as ListFault}
 use Rattle.judging.specs.declared.places.Phase.TheVariants.{Opened, Shut}
-use Rattle.judging.specs.Blocks.{judged_block, judged_in}
+use Rattle.judging.specs.Blocks.{judged_in}
 use Rattle.judging.specs.Places.{misplaced, astray}
 use Rattle.records.specs.Records.{Given, gives}
 use Rattle.records.specs.Drafts.{drafted}
@@ -50,7 +50,7 @@ abbrev tray_after : Tray
 tray_after = record { taken = 7 ∷ sent_pairs; room = 89 }
 
 pub worked_life : WorkedLife
-unfolding block_bytes read_head tabled pair_sum behind judged_block judged_in misplaced astray drafted open_walk open_receipt receipt closed_walk mended outcome started held sending
+unfolding block_bytes read_head tabled pair_sum behind judged_in misplaced astray drafted open_walk open_receipt receipt closed_walk mended outcome started held sending
 worked_life =
     goes_on (goes_on (goes_on (goes_on (goes_on (goes_on (begins (starts mem 0 0 (pos 86 ∷ (pos 54 ∷ [])) x0 (omega arith, (omega arith, tt)) refl))
     (turned_down (adds wrong) (ListFault (fault_at NumberRange 1)) (omega arith, (omega arith, tt)) refl refl))

@@ -23,6 +23,7 @@ use records::drafts::{Draft, Record, check_record};
 use wire::forms::Form;
 
 impl Open {
+    #[tactic(auto, unfolding(crate::specs::Calls::outcome, crate::specs::Calls::mended))]
     fn check_add<B: Book>(&self, memory: &[u8], book: &B, given: Record) -> Result<Draft, Refusal>
         ensures answer { passes result ≡ passes (outcome (B.meaning book.now) memory.now (of_open self.now) (adds (asked given.entry))) }
         ensures ready { IfOk result (λ d. Ready (B.meaning book.now) memory.now (of_open self.now) (adds (asked given.entry)) d (asked given.entry) self.now.bytes self.now.bytes (suc self.now.blocks)) }
@@ -58,6 +59,7 @@ impl Open {
         Ok(())
     }
 
+    #[tactic(auto, unfolding(crate::specs::Calls::outcome, crate::specs::Calls::mended))]
     fn check_replace<B: Book>(
         &self,
         memory: &[u8],
@@ -97,6 +99,7 @@ impl Open {
         Ok(())
     }
 
+    #[tactic(auto, unfolding(crate::specs::Calls::outcome, crate::specs::Calls::mended))]
     fn check_withdraw<B: Book>(
         &self,
         memory: &[u8],
@@ -135,6 +138,7 @@ impl Open {
     }
 
     /// Starts a product of one block, the identification, with the form that its end will have.
+    #[tactic(auto, unfolding(crate::specs::Calls::started))]
     pub fn start<B: Book>(
         memory: &mut [u8],
         book: &B,
@@ -162,6 +166,7 @@ impl Open {
         })
     }
 
+    #[tactic(auto, unfolding(crate::specs::Calls::outcome))]
     fn check_close<B: Book>(&self, memory: &[u8], book: &B) -> Result<(), Refusal>
         ensures answer { result ≡ passes (outcome (B.meaning book.now) memory.now (of_open self.now) closes) }
         ensures ready { OnOk result (Planned (B.meaning book.now) memory.now (of_open self.now) closes (end_of self.now.close) self.now.bytes self.now.bytes (suc self.now.blocks)) }

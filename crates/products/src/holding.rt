@@ -13,6 +13,7 @@ use judging::faults::{BlockFault, Place, Refusal};
 
 impl Closed {
     /// Whether the memory holds this product: it is received again, with the same blocks and closing form.
+    #[tactic(auto, unfolding(crate::specs::Holding::held))]
     pub fn check_held<B: Book>(&self, memory: &[u8], book: &B) -> Result<(), Refusal>
         ensures value { result ≡ is_held (B.meaning book.now) memory.now self.now }
         ensures within { OnOk result (self.now.bytes ≤ length memory.now) }

@@ -30,6 +30,7 @@ fn walk_open<B: Book>(bytes: &[u8], blocks: usize, book: &B) -> Result<(), Recei
 }
 
 /// Judges every block of the open product in the first `count` bytes of the memory, which has so many blocks.
+#[tactic(auto, unfolding(crate::specs::Opens::open_receipt))]
 pub fn receive_open<B: Book>(
     memory: &[u8],
     count: usize,

@@ -57,6 +57,7 @@ fn walk_blocks<B: Book>(bytes: &[u8], book: &B) -> Result<Closed, ReceiptFault>
 
 impl Closed {
     /// Receives the product in the first `count` bytes of the memory, judging every block.
+    #[tactic(auto, unfolding(crate::specs::Receipts::receipt))]
     pub fn receive<B: Book>(memory: &[u8], count: usize, book: &B) -> Result<Closed, ReceiptFault>
         ensures value { result ≡ received (B.meaning book.now) memory.now count }
         ensures within { IfOk result (λ p. p.bytes ≤ length memory.now) }

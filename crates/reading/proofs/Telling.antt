@@ -40,9 +40,8 @@ facts_are M k bs r s =
     ap (λ n. record {
       at = start_of k bs;
       form = s.block.head.form;
-      mode = s.block.head.mode;
-      submode = s.block.head.submode;
-      class = class_of s.block.head.mode s.block.head.submode;
+      modes = s.block.head.modes;
+      class = class_of s.block.head.modes.mode s.block.head.modes.submode;
       field = record { from = start_of k bs + 4; to = n };
       numbers = length s.block.numbers;
     }) (field_to M k bs s.block s.accepted)

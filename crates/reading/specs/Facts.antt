@@ -18,8 +18,7 @@ abbrev pub facts_of : List ℕ → ℕ → Record → Facts
 facts_of bs k r = record {
   at = start_of k bs;
   form = r.form;
-  mode = r.mode;
-  submode = r.submode;
+  modes = record { mode = r.mode; submode = r.submode };
   class = class_of r.mode r.submode;
   field = record { from = start_of k bs + 4; to = start_of (suc k) bs - 2 * checksum_pairs r.form };
   numbers = length r.numbers;

@@ -14,9 +14,8 @@ abbrev pub judged_facts : ℕ → Judged → Facts
 judged_facts at x = record {
   at = at;
   form = x.head.form;
-  mode = x.head.mode;
-  submode = x.head.submode;
-  class = class_of x.head.mode x.head.submode;
+  modes = x.head.modes;
+  class = class_of x.head.modes.mode x.head.modes.submode;
   field = record { from = at + 4; to = at + field_end x.head };
   numbers = length x.numbers;
 }

@@ -6,10 +6,12 @@ ghost use Rattle.std.specs.Prelude.{◌≡◌};
 use books::book::Book;
 use judging::blocks::judge_block;
 use judging::faults::{Place, ReceiptFault, Refusal};
+use judging::places::Phase;
 pub use memory::Part;
 use products::closed::Closed;
 use wire::classes::Class;
 use wire::forms::Form;
+use wire::modes::Modes;
 use wire::rows::skip_blocks;
 
 /// What a product tells of a block.
@@ -18,8 +20,7 @@ pub struct Facts {
     /// The block's first byte.
     pub at: usize,
     pub form: Form,
-    pub mode: u8,
-    pub submode: u8,
+    pub modes: Modes,
     pub class: Class,
     /// Where the data field lies.
     pub field: Part,
@@ -28,20 +29,20 @@ pub struct Facts {
 }
 
 /// The block behind so many others.
+#[tactic(auto, unfolding(crate::specs::Finding::found_block))]
 fn find_block<B: Book>(bytes: &[u8], block: usize, book: &B) -> Result<Facts, ReceiptFault>
     ensures { result ≡ found_block (B.meaning book.now) block bytes.now }
 {
     let rest = skip_blocks(bytes, block);
     let at = bytes.len() - rest.len();
     let place = Place { block, at };
-    let found = place.locate(judge_block(rest, block, book))?;
+    let found = place.locate(judge_block(rest, Phase::Shut, block, book))?;
     let head = found.head;
     Ok(Facts {
         at,
         form: head.form,
-        mode: head.mode,
-        submode: head.submode,
-        class: Class::of(head.mode, head.submode),
+        modes: head.modes,
+        class: Class::of(head.modes),
         field: Part {
             from: at + 4,
             to: at + head.field_end(),

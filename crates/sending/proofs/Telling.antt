@@ -1,6 +1,8 @@
 -- From what the pairs of a product find in the sink to the answer of its sending.
-use Rattle.std.proofs.Common.{◌≡◌, ℕ, ◌-◌, Bool, true, false, cond, List, length, take, Ok, Err, Result, sym, refl, ap, ◌∙◌, arith}
+use Rattle.std.proofs.Common.{◌≡◌, ℕ, ◌-◌, Bool, true, false, cond, List, length, take, Ok, Err, Result, refl, ap, arith}
+use Rattle.std.specs.Prelude.{nat_lt, MatchResult, IsErrAnd}
 use Rattle.wire.specs.Pairs.{pairs}
+use Rattle.wire.specs.Steps.{◌>>=◌, refuse, blame}
 use Rattle.books.specs.Books.{Meaning}
 use Rattle.judging.specs.declared.faults.Refusal.TheVariants.{SinkFull}
 use Rattle.products.specs.Receipts.{Received}
@@ -10,27 +12,25 @@ use Rattle.products.specs.declared.closed.Closed.{Closed}
 use Rattle.products.specs.Holding.{held}
 use Rattle.sending.specs.Sending.{pairs_in, sending}
 
-fits : (b : Bool) (n k : ℕ) (f : Full) → cond {A = Result ℕ Full} b (Err f) (Ok n) ≡ Ok k → (b ≡ false) × (k ≡ n)
-fits true n k f h = absurd (let z : ◌≡◌ {A = ℕ} 0 1 = cc in omega arith)
-fits false n k f h = (refl, cc)
+-- a result whose error a closure has told in other words
+pub blamed : {A E F : Type 0} (f : E → F) (P : E → F → Type 0) (r : Result A E) (q : Result A F) → MatchResult r (λ x. q ≡ Ok x) (λ e. IsErrAnd q (P e))
+    → ((e : E) (x : F) → P e x → x ≡ f e) → q ≡ blame f r
+blamed f P (Ok x) q h post = h
+blamed f P (Err e) (Ok x) h post = absurd h
+blamed f P (Err e) (Err y) h post = ap Err (post e y h)
 
-lacks : (b : Bool) (n : ℕ) (e f : Full) → cond {A = Result ℕ Full} b (Err f) (Ok n) ≡ Err e → b ≡ true
-lacks true n e f h = refl
-lacks false n e f h = absurd (let z : ◌≡◌ {A = ℕ} 0 1 = cc in omega arith)
+pub blamed_alike : {A E F : Type 0} (f : E → F) (P : A → Type 0) (Q : Type 0) (r : Result A E) (q : Result A F) → q ≡ blame f r → MatchResult r P (λ _. Q) → MatchResult q P (λ _. Q)
+blamed_alike f P Q (Ok x) q e h = rw e h
+blamed_alike f P Q (Err d) q e h = rw e h
 
 -- all of the memory's first bytes, as the code takes them
 pub whole : (mem : List ℕ) (p : Closed) (n : ℕ) → n ≡ p.bytes → pairs (take (n - 0) mem) ≡ pairs_in mem p
 whole mem p n e = let all : n - 0 ≡ p.bytes = omega arith in ap (λ k. pairs (take k mem)) all
 
-module _ (M : Meaning) (mem : List ℕ) (p : Closed) (room : ℕ) (x : Received) (h : held M mem p ≡ Ok x) (n : ℕ) (all : n ≡ p.bytes) (r : Result ℕ Full)
-    (told : r ≡ sent room (length (pairs (take (n - 0) mem)))) where
-  told_all : r ≡ sent room (length (pairs_in mem p))
-  told_all = told ∙ ap (λ ps. sent room (length ps)) (whole mem p n all)
+answered : (b : Bool) (n : ℕ) → blame (λ (_ : Full). SinkFull) (cond b (Err (record {})) (Ok n)) ≡ (refuse b SinkFull >>= (λ _. Ok n))
+answered true n = refl
+answered false n = refl
 
-  pub sent_told : (k : ℕ) → r ≡ Ok k → Ok k ≡ sending M mem p room
-  unfolding sending
-  sent_told k e = let t = fits _ _ k _ (sym told_all ∙ e) in let space = t.0 in rw (h, space) (ap Ok t.1)
-
-  pub full_told : (f : Full) → r ≡ Err f → Err SinkFull ≡ sending M mem p room
-  unfolding sending
-  full_told f e = let space = lacks _ _ f _ (sym told_all ∙ e) in rw (h, space) refl
+pub sending_told : (M : Meaning) (mem : List ℕ) (p : Closed) (room : ℕ) (x : Received) → held M mem p ≡ Ok x → blame (λ _. SinkFull) (sent room (length (pairs_in mem p))) ≡ sending M mem p room
+unfolding sending
+sending_told M mem p room x h = rw h (answered (nat_lt room (length (pairs_in mem p))) (length (pairs_in mem p)))

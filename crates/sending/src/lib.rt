@@ -12,6 +12,7 @@ use sinks::sending::put_all;
 use sinks::sink::Sink;
 
 /// Puts all pairs of a closed product into a sink, first to last, and tells their number.
+#[tactic(auto, unfolding(crate::specs::Sending::sending))]
 pub fn send<B: Book, S: Sink>(
     product: &Closed,
     memory: &[u8],
@@ -22,9 +23,5 @@ pub fn send<B: Book, S: Sink>(
     ensures after { MatchResult result (λ _. Took S.Sink.taken S.Sink.room S.Sink.wrote sink.old (pairs_in memory.now product.now) sink.new) (λ _. sink.new ≡ sink.old) }
 {
     product.check_held(memory, book)?;
-    let bytes = product.tally().bytes;
-    match put_all(&memory[0..bytes], sink) {
-        Ok(pairs) => Ok(pairs),
-        Err(_) => Err(Refusal::SinkFull),
-    }
+    put_all(&memory[0..product.bytes()], sink).map_err(|_| Refusal::SinkFull)
 }

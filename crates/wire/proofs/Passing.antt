@@ -33,3 +33,6 @@ not_blamed f m h = rw h refl
 
 pub same_ok : {A E : Type 0} {a b : A} → ◌≡◌ {A = Result A E} (Ok a) (Ok b) → a ≡ b
 same_ok h = cc
+
+pub from_there : {A B E : Type 0} (m : Result A E) (a : A) (k : A → Result B E) {y : Result B E} → m ≡ Ok a → (m >>= k) ≡ y → k a ≡ y
+from_there m a k e h = sym (go_on m a k e refl) ∙ h

@@ -4,10 +4,6 @@ use Rattle.products.specs.Opens.{open_receipt, passes}
 use Rattle.products.proofs.Opening.{Bounded, made_bounded}
 use Rattle.products.proofs.opens.receive_open.Goals as goal
 
-pub returns-in_err-check_count : goal.returns-in_err-check_count
-unfolding open_receipt
-returns-in_err-check_count g c = search rules
-
 pub returns : goal.returns
 unfolding open_receipt
 returns g c =

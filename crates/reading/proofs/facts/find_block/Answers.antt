@@ -5,11 +5,3 @@ use Rattle.reading.proofs.facts.find_block.Goals as goal
 
 pub overflow_sub-at : goal.overflow_sub-at
 overflow_sub-at g c = omega (arith, ap length c.skip_blocks-rest.ensures, behind_length c.args.block c.args.bytes.now)
-
-pub returns-in_err-found : goal.returns-in_err-found
-unfolding found_block
-returns-in_err-found g c = search rules
-
-pub returns : goal.returns
-unfolding found_block
-returns g c = search rules

@@ -6,10 +6,6 @@ use Rattle.products.proofs.Opening.{passed_by}
 use Rattle.products.proofs.closed.Closed.check_held.Goals as goal
 use Rattle.products.proofs.closed.Closed.check_held.Goals.{then-found-self-via-then-found-self, then-found-self-via-else-found-self+then-ne}
 
-pub returns-in_err-found : goal.returns-in_err-found
-unfolding held
-returns-in_err-found g c = search rules
-
 pub returns-then-found-self : goal.returns-then-found-self
 unfolding held
 returns-then-found-self g c =

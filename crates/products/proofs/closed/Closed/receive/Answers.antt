@@ -4,10 +4,6 @@ use Rattle.products.proofs.Within.{received_within}
 use Rattle.products.proofs.Written.{received_written}
 use Rattle.products.proofs.closed.Closed.receive.Goals as goal
 
-pub returns-in_err-check_count : goal.returns-in_err-check_count
-unfolding receipt
-returns-in_err-check_count g c = search rules
-
 pub returns : goal.returns
 unfolding receipt
 returns g c =

@@ -1,23 +1,10 @@
-use Rattle.std.proofs.Common.{Err, sym, ap, ◌∙◌, arith, rules}
+use Rattle.std.proofs.Common.{sym, ap, ◌∙◌, arith, rules}
 use Rattle.wire.proofs.Passing.{allowed, turned_down}
 use Rattle.judging.specs.declared.faults.Refusal.TheVariants.{NoRoom}
 use Rattle.products.specs.Opens.{passes}
 use Rattle.records.specs.Asked.{asked}
-use Rattle.products.specs.Calls.{outcome, mended}
 use Rattle.products.proofs.Planning.{add_crowded, add_ready}
 use Rattle.products.proofs.opened.Open.check_add.Goals as goal
-
-pub returns-in_err-check_held : goal.returns-in_err-check_held
-unfolding outcome
-returns-in_err-check_held g c = search rules
-
-pub returns-in_err-draft : goal.returns-in_err-draft
-unfolding outcome mended
-returns-in_err-draft g c = search rules
-
-pub returns-then-self : goal.returns-then-self
-unfolding outcome mended
-returns-then-self g c = search rules
 
 pub returns-in_err-check_room-clause-answer : goal.returns-in_err-check_room-clause-answer
 returns-in_err-check_room-clause-answer g c =

@@ -1,4 +1,4 @@
-use Rattle.std.proofs.Common.{suc, Result, sym, ap, ◌∙◌, subst, ⊎_elim, rules}
+use Rattle.std.proofs.Common.{suc, Result, sym, ap, ◌∙◌, subst, ⊎_elim}
 use Rattle.std.proofs.lemmas.Bool.{cases_Bool}
 use Rattle.std.specs.Prelude.{OnOk}
 use Rattle.wire.specs.Steps.{refuse}
@@ -8,13 +8,9 @@ use Rattle.products.specs.Closings.{end_of}
 use Rattle.products.specs.Plans.{Planned}
 use Rattle.products.specs.Products.{of_open}
 use Rattle.products.specs.Opens.{passes}
-use Rattle.products.specs.Calls.{closes, crowded, outcome}
+use Rattle.products.specs.Calls.{closes, crowded}
 use Rattle.products.proofs.Planning.{close_crowded, close_planned}
 use Rattle.products.proofs.opened.Open.check_close.Goals as goal
-
-pub returns-in_err-check_held : goal.returns-in_err-check_held
-unfolding outcome
-returns-in_err-check_held g c = search rules
 
 pub returns : goal.returns
 returns g c =

@@ -1,20 +1,7 @@
-use Rattle.std.proofs.Common.{sym, ap, arith, rules}
+use Rattle.std.proofs.Common.{sym, ap, arith}
 use Rattle.products.specs.Opens.{passes}
-use Rattle.products.specs.Calls.{outcome, mended}
 use Rattle.products.proofs.Planning.{withdraw_planned}
 use Rattle.products.proofs.opened.Open.check_withdraw.Goals as goal
-
-pub returns-in_err-check_held : goal.returns-in_err-check_held
-unfolding outcome
-returns-in_err-check_held g c = search rules
-
-pub returns-then-block-self : goal.returns-then-block-self
-unfolding outcome mended
-returns-then-block-self g c = search rules
-
-pub returns-then-block-eq0 : goal.returns-then-block-eq0
-unfolding outcome mended
-returns-then-block-eq0 g c = search rules
 
 pub returns : goal.returns
 returns g c =

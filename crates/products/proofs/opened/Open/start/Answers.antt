@@ -1,20 +1,11 @@
-use Rattle.std.proofs.Common.{◌≡◌, false, Some, Ok, Err, sym, ap, ◌∙◌, arith, rules}
+use Rattle.std.proofs.Common.{◌≡◌, false, Some, Ok, sym, ap, ◌∙◌, arith, rules}
 use Rattle.wire.specs.Forms.{form_of}
 use Rattle.wire.proofs.Passing.{allowed, turned_down, same_ok}
 use Rattle.judging.specs.declared.faults.Refusal.TheVariants.{NoRoom}
 use Rattle.records.specs.Records.{gives}
 use Rattle.products.specs.Answers.{memory_after, opened_by}
 use Rattle.products.proofs.Planning.{draft_is, start_crowded, start_done, start_bytes}
-use Rattle.products.specs.Calls.{started}
 use Rattle.products.proofs.opened.Open.start.Goals as goal
-
-pub returns-in_err-close : goal.returns-in_err-close
-unfolding started
-returns-in_err-close g c = search rules
-
-pub returns-in_err-draft : goal.returns-in_err-draft
-unfolding started
-returns-in_err-draft g c = search rules
 
 pub returns-in_err-check_room : goal.returns-in_err-check_room
 returns-in_err-check_room g c =
