@@ -1,12 +1,9 @@
 // The three lines that the programs print.
-ghost use Rattle.text.specs.Lines.{length_told, laid, line_text};
-ghost use Rattle.text.specs.Pens.{written};
-ghost use Rattle.text.specs.Rows.{product_row, block_row, refusal_row};
-ghost use Rattle.text.specs.Items.{shows};
-ghost use Rattle.std.specs.Prelude.{◌≡◌};
+ghost use Rattle.text.specs.Lines.{product_text, block_text, refusal_text, line_text, length_told, laid};
+ghost use Rattle.std.specs.Prelude.{◌≡◌, Some};
 
-use crate::items::{Item, Label, Value};
-use crate::pen::Pen;
+use crate::writing::{DECIMAL, OCTAL, Text, put};
+use std::fmt;
 use wire::classes::Class;
 
 /// A product that was read to its end.
@@ -14,6 +11,7 @@ use wire::classes::Class;
 pub struct ProductLine {
     pub bytes: usize,
     pub blocks: usize,
+    // Any number: a type of the known forms alone would ask more of a caller.
     pub close: u8,
 }
 
@@ -22,6 +20,7 @@ pub struct ProductLine {
 pub struct BlockLine {
     pub block: usize,
     pub at: usize,
+    // Any number, as `close` is.
     pub form: u8,
     pub mode: u8,
     pub submode: u8,
@@ -32,6 +31,7 @@ pub struct BlockLine {
 /// Why and where a product was refused.
 #[derive(Clone, Copy)]
 pub struct RefusalLine {
+    // Any number, as `close` is; so is `rule`.
     pub refused: u8,
     pub block: usize,
     pub at: usize,
@@ -46,86 +46,61 @@ pub enum Line {
     Refusal(RefusalLine),
 }
 
-fn decimal(label: Label, n: usize) -> Item
-    ensures { result ≡ shows label (Value.Decimal n) }
-{
-    Item {
-        label,
-        value: Value::Decimal(n),
-    }
-}
-
-fn octal(label: Label, n: u8) -> Item
-    ensures { result ≡ shows label (Value.Octal n) }
-{
-    Item {
-        label,
-        value: Value::Octal(n),
-    }
-}
-
-fn name(label: Label, class: Class) -> Item
-    ensures { result ≡ shows label (Value.Name class) }
-{
-    Item {
-        label,
-        value: Value::Name(class),
-    }
-}
-
 impl ProductLine {
-    fn items(self) -> [Item; 3]
-        ensures { result ≡ product_row self }
+    fn text(self) -> Text
+        ensures { result.bytes ≡ product_text self }
     {
-        [
-            decimal(Label::Bytes, self.bytes),
-            decimal(Label::Blocks, self.blocks),
-            decimal(Label::Close, usize::from(self.close)),
-        ]
+        let mut text = Text::new();
+        put(&mut text, "bytes=", self.bytes, DECIMAL);
+        put(&mut text, " blocks=", self.blocks, DECIMAL);
+        put(&mut text, " close=", usize::from(self.close), DECIMAL);
+        text.push_str("\n");
+        text
     }
 }
 
 impl BlockLine {
-    fn items(self) -> [Item; 7]
-        ensures { result ≡ block_row self }
+    fn text(self) -> Text
+        ensures { result.bytes ≡ block_text self }
     {
-        [
-            decimal(Label::Block, self.block),
-            decimal(Label::At, self.at),
-            decimal(Label::Form, usize::from(self.form)),
-            octal(Label::Mode, self.mode),
-            octal(Label::Submode, self.submode),
-            name(Label::Class, self.class),
-            decimal(Label::Numbers, self.numbers),
-        ]
+        let mut text = Text::new();
+        put(&mut text, "block=", self.block, DECIMAL);
+        put(&mut text, " at=", self.at, DECIMAL);
+        put(&mut text, " form=", usize::from(self.form), DECIMAL);
+        put(&mut text, " mode=", usize::from(self.mode), OCTAL);
+        put(&mut text, " submode=", usize::from(self.submode), OCTAL);
+        text.push_str(" class=");
+        text.push_str(self.class.name());
+        put(&mut text, " numbers=", self.numbers, DECIMAL);
+        text.push_str("\n");
+        text
     }
 }
 
 impl RefusalLine {
-    fn items(self) -> [Item; 5]
-        ensures { result ≡ refusal_row self }
+    fn text(self) -> Text
+        ensures { result.bytes ≡ refusal_text self }
     {
-        [
-            decimal(Label::Refused, usize::from(self.refused)),
-            decimal(Label::Block, self.block),
-            decimal(Label::At, self.at),
-            decimal(Label::Rule, usize::from(self.rule)),
-            decimal(Label::Offset, self.offset),
-        ]
+        let mut text = Text::new();
+        put(&mut text, "refused=", usize::from(self.refused), DECIMAL);
+        put(&mut text, " block=", self.block, DECIMAL);
+        put(&mut text, " at=", self.at, DECIMAL);
+        put(&mut text, " rule=", usize::from(self.rule), DECIMAL);
+        put(&mut text, " offset=", self.offset, DECIMAL);
+        text.push_str("\n");
+        text
     }
 }
 
 impl Line {
-    fn pen(self) -> Pen
-        ensures { written result ≡ line_text self }
+    fn text(self) -> Text
+        ensures { result.bytes ≡ line_text self }
     {
-        let mut pen = Pen::new();
         match self {
-            Line::Product(line) => pen.row(&line.items()),
-            Line::Block(line) => pen.row(&line.items()),
-            Line::Refusal(line) => pen.row(&line.items()),
+            Line::Product(line) => line.text(),
+            Line::Block(line) => line.text(),
+            Line::Refusal(line) => line.text(),
         }
-        pen
     }
 
     /// Puts the line at the front of the memory and tells its length, or leaves a memory that is short of it as it is.
@@ -133,12 +108,19 @@ impl Line {
         ensures answer { result ≡ length_told (line_text self) memory.old }
         ensures memory { memory.new ≡ laid (line_text self) memory.old }
     {
-        let pen = self.pen();
-        if pen.len <= memory.len() {
-            memory[0..pen.len].copy_from_slice(&pen.bytes[0..pen.len]);
-            Some(pen.len)
-        } else {
-            None
+        let text = self.text();
+        if memory.len() < text.len() {
+            return None;
         }
+        memory[..text.len()].copy_from_slice(text.as_bytes());
+        Some(text.len())
+    }
+}
+
+impl fmt::Display for Line {
+    ghost output = { λ line. Some (line_text line) };
+
+    fn fmt<W: fmt::Write>(&self, f: &mut fmt::Formatter<W>) -> fmt::Result {
+        f.write_str(self.text().as_str())
     }
 }
