@@ -4,23 +4,20 @@
 #[cfg(test)]
 mod tests {
     use std::process::Abort;
+    use std::test::Fail;
     use text::lines::*;
     use wire::classes::Class;
 
     const MARK: u8 = 35;
 
-    fn check_fits(rt: &impl Abort, line: Line, memory: &mut [u8], text: &[u8]) {
-        assert_eq!(rt; line.write(memory), Some(text.len()));
-        assert_eq!(rt; &*memory, text);
-    }
-
-    fn check_line(rt: &impl Abort, line: Line, text: &[u8]) {
+    fn check_line(rt: &impl Abort, line: Line, text: &str) {
         let n = text.len();
         assert!(rt; 0 < n && n < 256);
         let mut memory = [MARK; 256];
-        check_fits(rt, line, &mut memory[0..n], text);
+        assert_eq!(rt; line.write(&mut memory[..n]), Some(n));
+        assert_eq!(rt; &memory[..n], text.as_bytes());
         let mut short = [MARK; 256];
-        assert_eq!(rt; line.write(&mut short[0..n - 1]), None);
+        assert_eq!(rt; line.write(&mut short[..n - 1]), None);
         assert_eq!(rt; short, [MARK; 256]);
     }
 
@@ -43,7 +40,7 @@ mod tests {
             blocks: 4,
             close: 0,
         };
-        check_line(&rt, Line::Product(product), b"bytes=44 blocks=4 close=0\n");
+        check_line(&rt, Line::Product(product), "bytes=44 blocks=4 close=0\n");
         let refusal = RefusalLine {
             refused: 12,
             block: 1,
@@ -54,7 +51,7 @@ mod tests {
         check_line(
             &rt,
             Line::Refusal(refusal),
-            b"refused=12 block=1 at=10 rule=4 offset=18446744073709551615\n",
+            "refused=12 block=1 at=10 rule=4 offset=18446744073709551615\n",
         );
     }
 
@@ -63,17 +60,27 @@ mod tests {
         check_line(
             &rt,
             block(5, 3, Class::Data),
-            b"block=1 at=10 form=1 mode=5 submode=3 class=data numbers=6\n",
+            "block=1 at=10 form=1 mode=5 submode=3 class=data numbers=6\n",
         );
         check_line(
             &rt,
             block(63, 0o20, Class::Unknown),
-            b"block=1 at=10 form=1 mode=77 submode=20 class=unknown numbers=6\n",
+            "block=1 at=10 form=1 mode=77 submode=20 class=unknown numbers=6\n",
         );
         check_line(
             &rt,
             block(0, 255, Class::Description),
-            b"block=1 at=10 form=1 mode=0 submode=377 class=description numbers=6\n",
+            "block=1 at=10 form=1 mode=0 submode=377 class=description numbers=6\n",
         );
+    }
+
+    #[test]
+    fn printed(rt: HostRuntime) -> Result<(), Fail> {
+        let printed = block(5, 3, Class::Data).to_string(rt.alloc())?;
+        assert_eq!(rt;
+            printed.as_str(),
+            "block=1 at=10 form=1 mode=5 submode=3 class=data numbers=6\n"
+        );
+        Ok(())
     }
 }
