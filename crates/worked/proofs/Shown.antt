@@ -9,7 +9,6 @@ use Rattle.judging.specs.Blocks.{judged_block}
 use Rattle.judging.specs.Places.{misplaced, astray}
 use Rattle.products.specs.Holding.{held}
 use Rattle.products.specs.Receipts.{receipt, closed_walk}
-use Rattle.text.specs.Items.{item_text, later_text, row_text}
 use Rattle.text.specs.Numeral.{numeral}
 use Rattle.worked.specs.Worked.{Worked}
 
@@ -17,7 +16,7 @@ long : (rest : List ℕ) → ltb (length (0 ∷ 0 ∷ 0 ∷ 0 ∷ rest)) 4 ≡ f
 long rest = le-ltb _ _ (omega arith)
 
 pub shown : Worked
-unfolding read_head tabled pair_sum behind judged_block misplaced astray held receipt closed_walk item_text later_text row_text numeral
+unfolding read_head tabled pair_sum behind judged_block misplaced astray held receipt closed_walk numeral
 shown = record {
   block = refl;
   words = refl;
