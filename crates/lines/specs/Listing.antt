@@ -22,8 +22,7 @@ block_line M mem p k = do
     block = k;
     at = f.at;
     form = form_number f.form;
-    mode = f.mode;
-    submode = f.submode;
+    modes = f.modes;
     class = f.class;
     numbers = f.numbers;
   }))

@@ -28,8 +28,8 @@ field_offset f = offset_told (field_in f)
 abbrev pub refusal_line : ReceiptFault → Line
 refusal_line f = Refusal (record {
   refused = block_fault_number f.fault;
-  block = f.block;
-  at = f.at;
+  block = f.place.block;
+  at = f.place.at;
   rule = field_rule f.fault;
   offset = field_offset f.fault;
 })

@@ -33,8 +33,7 @@ fn line_of_block<B: Book>(
         block,
         at: facts.at,
         form: facts.form.number(),
-        mode: facts.mode,
-        submode: facts.submode,
+        modes: facts.modes,
         class: facts.class,
         numbers: facts.numbers,
     }))

@@ -29,8 +29,8 @@ pub fn write_refusal(refused: ReceiptFault, out: &mut [u8]) -> Result<usize, Ref
     let field = refused.fault.field();
     let line = Line::Refusal(RefusalLine {
         refused: refused.fault.number(),
-        block: refused.block,
-        at: refused.at,
+        block: refused.place.block,
+        at: refused.place.at,
         rule: rule_told(field),
         offset: offset_told(field),
     });

@@ -22,8 +22,8 @@ block_text l =
     codes "block=" ++ numeral 10 l.block
     ++ codes " at=" ++ numeral 10 l.at
     ++ codes " form=" ++ numeral 10 l.form
-    ++ codes " mode=" ++ numeral 8 l.mode
-    ++ codes " submode=" ++ numeral 8 l.submode
+    ++ codes " mode=" ++ numeral 8 l.modes.mode
+    ++ codes " submode=" ++ numeral 8 l.modes.submode
     ++ codes " class=" ++ class_name l.class
     ++ codes " numbers=" ++ numeral 10 l.numbers
     ++ codes "\n"

@@ -5,6 +5,7 @@ ghost use Rattle.std.specs.Prelude.{◌≡◌, Some};
 use crate::writing::{DECIMAL, OCTAL, Text, put};
 use std::fmt;
 use wire::classes::Class;
+use wire::modes::Modes;
 
 /// A product that was read to its end.
 #[derive(Clone, Copy)]
@@ -22,8 +23,7 @@ pub struct BlockLine {
     pub at: usize,
     // Any number, as `close` is.
     pub form: u8,
-    pub mode: u8,
-    pub submode: u8,
+    pub modes: Modes,
     pub class: Class,
     pub numbers: usize,
 }
@@ -67,8 +67,8 @@ impl BlockLine {
         put(&mut text, "block=", self.block, DECIMAL);
         put(&mut text, " at=", self.at, DECIMAL);
         put(&mut text, " form=", usize::from(self.form), DECIMAL);
-        put(&mut text, " mode=", usize::from(self.mode), OCTAL);
-        put(&mut text, " submode=", usize::from(self.submode), OCTAL);
+        put(&mut text, " mode=", usize::from(self.modes.mode), OCTAL);
+        put(&mut text, " submode=", usize::from(self.modes.submode), OCTAL);
         text.push_str(" class=");
         text.push_str(self.class.name());
         put(&mut text, " numbers=", self.numbers, DECIMAL);
