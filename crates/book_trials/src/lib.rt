@@ -7,15 +7,13 @@ mod tests {
     use books::faults::{FieldFault, Rule};
     use books::plain::PlainWords;
     use std::process::Abort;
+    use wire::modes::Modes;
 
     // The plain-word book answers alike at every mode and submode.
-    const MODE: u8 = 4;
-
-    const SUBMODE: u8 = 0o20;
-
-    const fn fault(rule: Rule, place: usize) -> FieldFault {
-        FieldFault { rule, place }
-    }
+    const MODES: Modes = Modes {
+        mode: 4,
+        submode: 0o20,
+    };
 
     #[test]
     fn judge_goes_by_the_length(rt: HostRuntime) {
@@ -24,14 +22,14 @@ mod tests {
             (0, Ok(0)),
             (2, Ok(1)),
             (4_092, Ok(2_046)),
-            (1, Err(fault(Rule::DataLength, 1))),
-            (4_091, Err(fault(Rule::DataLength, 4_091))),
-            (4_093, Err(fault(Rule::DataLength, 4_093))),
-            (4_094, Err(fault(Rule::DataLength, 4_094))),
+            (1, Err(Rule::DataLength.at(1))),
+            (4_091, Err(Rule::DataLength.at(4_091))),
+            (4_093, Err(Rule::DataLength.at(4_093))),
+            (4_094, Err(Rule::DataLength.at(4_094))),
         ];
         for (length, want) in &cases {
             assert!(rt; *length <= bytes.len());
-            assert_eq!(rt; PlainWords.judge(MODE, SUBMODE, &bytes[0..*length]), *want);
+            assert_eq!(rt; PlainWords.judge(MODES, &bytes[0..*length]), *want);
         }
     }
 
@@ -50,11 +48,11 @@ mod tests {
         for (length, index, want) in &cases {
             assert!(rt; *length <= bytes.len());
             assert_eq!(rt;
-                PlainWords.number(MODE, SUBMODE, &bytes[0..*length], *index),
+                PlainWords.number(MODES, &bytes[0..*length], *index),
                 *want
             );
         }
-        assert_eq!(rt; PlainWords.number(MODE, SUBMODE, &[0; 4_094], 0), None);
+        assert_eq!(rt; PlainWords.number(MODES, &[0; 4_094], 0), None);
     }
 
     // A list of zeros in which two numbers are put.
@@ -63,34 +61,34 @@ mod tests {
         let cases = [
             (0, (0, -1), (1, -1), Ok(0)),
             (2_046, (0, 0), (2_045, 65_535), Ok(4_092)),
-            (2_047, (0, 0), (1, 0), Err(fault(Rule::ListLength, 2_047))),
+            (2_047, (0, 0), (1, 0), Err(Rule::ListLength.at(2_047))),
             (
                 2_047,
                 (0, -1),
                 (1, 65_536),
-                Err(fault(Rule::ListLength, 2_047)),
+                Err(Rule::ListLength.at(2_047)),
             ),
-            (3, (0, -1), (1, 65_535), Err(fault(Rule::NumberRange, 0))),
-            (3, (1, -1), (2, 65_535), Err(fault(Rule::NumberRange, 1))),
-            (3, (2, -1), (0, 65_535), Err(fault(Rule::NumberRange, 2))),
+            (3, (0, -1), (1, 65_535), Err(Rule::NumberRange.at(0))),
+            (3, (1, -1), (2, 65_535), Err(Rule::NumberRange.at(1))),
+            (3, (2, -1), (0, 65_535), Err(Rule::NumberRange.at(2))),
             (
                 3,
                 (0, 65_536),
                 (1, 65_535),
-                Err(fault(Rule::NumberRange, 0)),
+                Err(Rule::NumberRange.at(0)),
             ),
-            (3, (1, 65_536), (2, -1), Err(fault(Rule::NumberRange, 1))),
+            (3, (1, 65_536), (2, -1), Err(Rule::NumberRange.at(1))),
             (
                 2_046,
                 (2_045, 65_536),
                 (0, 65_535),
-                Err(fault(Rule::NumberRange, 2_045)),
+                Err(Rule::NumberRange.at(2_045)),
             ),
             (
                 2_046,
                 (2_045, 65_536),
                 (2_044, -1),
-                Err(fault(Rule::NumberRange, 2_044)),
+                Err(Rule::NumberRange.at(2_044)),
             ),
         ];
         for (length, first, second, want) in &cases {
@@ -98,7 +96,7 @@ mod tests {
             assert!(rt; *length <= 2_047 && first.0 < 2_047 && second.0 < 2_047);
             list[first.0] = first.1;
             list[second.0] = second.1;
-            assert_eq!(rt; PlainWords.weigh(MODE, SUBMODE, &list[0..*length]), *want);
+            assert_eq!(rt; PlainWords.weigh(MODES, &list[0..*length]), *want);
         }
     }
 
@@ -111,15 +109,15 @@ mod tests {
         after: &[u8],
     ) {
         let list = [258, middle, 65_535];
-        assert_eq!(rt; PlainWords.write(MODE, SUBMODE, &list, place), answer);
+        assert_eq!(rt; PlainWords.write(MODES, &list, place), answer);
         assert_eq!(rt; &place[0..], after);
     }
 
     #[test]
     fn write_fills_a_place_of_its_weight_alone(rt: HostRuntime) {
-        let short = Err(fault(Rule::DataLength, 4));
-        let long = Err(fault(Rule::DataLength, 8));
-        let range = Err(fault(Rule::NumberRange, 1));
+        let short = Err(Rule::DataLength.at(4));
+        let long = Err(Rule::DataLength.at(8));
+        let range = Err(Rule::NumberRange.at(1));
         write_case(&rt, 3, &mut [9; 6], Ok(()), &[1, 2, 0, 3, 255, 255]);
         write_case(&rt, 3, &mut [9; 4], short, &[9; 4]);
         write_case(&rt, 3, &mut [9; 8], long, &[9; 8]);

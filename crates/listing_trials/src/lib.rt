@@ -34,8 +34,8 @@ mod tests {
             Refusal::NotHeld(inside) => [
                 number,
                 usize::from(inside.fault.number()),
-                inside.block,
-                inside.at,
+                inside.place.block,
+                inside.place.at,
             ],
             _ => [number, 0, 0, 0],
         }
@@ -94,8 +94,8 @@ mod tests {
         [
             facts.at,
             usize::from(facts.form.number()),
-            usize::from(facts.mode),
-            usize::from(facts.submode),
+            usize::from(facts.modes.mode),
+            usize::from(facts.modes.submode),
             facts.field.from,
             facts.field.to,
             facts.numbers,

@@ -11,22 +11,19 @@ mod tests {
     use records::drafts::Record;
     use std::process::Abort;
     use std::test::Fail;
+    use wire::modes::Modes;
 
     // What stands behind a product at first.
     const FILL: u8 = 35;
 
     fn accepted<T, E: Drop>(res: Result<T, E>) -> Result<T, Fail> {
-        match res {
-            Ok(x) => Ok(x),
-            Err(_) => Err(Fail::new("refused")),
-        }
+        res.map_err(|_| Fail::new("refused"))
     }
 
     fn record(form: u8, mode: u8, submode: u8, numbers: &[i32]) -> Record<'_> {
         Record {
             form,
-            mode,
-            submode,
+            modes: Modes { mode, submode },
             numbers,
         }
     }
@@ -50,13 +47,12 @@ mod tests {
 
     // The numbers of a refusal; inside 16 those of the fault, its block, its byte, and its rule and offset.
     fn told(refusal: Refusal) -> [usize; 6] {
-        let (rule, offset) = match refusal.field() {
-            Some(field) => (usize::from(field.rule.number()), field.place),
-            None => (0, 0),
-        };
+        let (rule, offset) = refusal.field().map_or((0, 0), |field| {
+            (usize::from(field.rule.number()), field.place)
+        });
         let (number, block, at) = match refusal {
             Refusal::NotHeld(inside) => {
-                (usize::from(inside.fault.number()), inside.block, inside.at)
+                (usize::from(inside.fault.number()), inside.place.block, inside.place.at)
             }
             _ => (0, 0, 0),
         };

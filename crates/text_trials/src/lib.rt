@@ -7,6 +7,7 @@ mod tests {
     use std::test::Fail;
     use text::lines::*;
     use wire::classes::Class;
+    use wire::modes::Modes;
 
     const MARK: u8 = 35;
 
@@ -26,8 +27,7 @@ mod tests {
             block: 1,
             at: 10,
             form: 1,
-            mode,
-            submode,
+            modes: Modes { mode, submode },
             class,
             numbers: 6,
         })

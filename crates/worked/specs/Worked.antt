@@ -25,7 +25,7 @@ abbrev pub bytes_of : List ℕ → List ℕ
 bytes_of ps = flat_map pair_bytes ps
 
 abbrev pub head : Form → ℕ → ℕ → ℕ → Head
-head form pairs mode submode = record { form = form; pairs = pairs; mode = mode; submode = submode }
+head form pairs mode submode = record { form = form; pairs = pairs; modes = record { mode = mode; submode = submode } }
 
 -- bytes by their first pair
 abbrev pub begun : ℕ → ℕ → ℕ → List ℕ → List ℕ
