@@ -1,10 +1,12 @@
 -- What an outcome leaves to the caller.
-use Rattle.std.specs.Prelude.{ℕ, List, Ok, Err, Result}
+use Rattle.std.specs.Prelude.{◌≡◌, ℕ, List, Ok, Err, Result}
+use Rattle.books.specs.Books.{Meaning}
 use Rattle.judging.specs.declared.faults.Refusal.{Refusal}
 use Rattle.products.specs.declared.opened.Open.{Open}
 use Rattle.products.specs.declared.closed.Closed.{Closed}
 use Rattle.products.specs.declared.kept.Kept.{Kept}
-use Rattle.products.specs.Calls.{Stored}
+use Rattle.products.specs.Calls.{Call, Stored, outcome}
+use Rattle.products.specs.Opens.{passes}
 use Rattle.products.specs.Products.{Product, as_open, as_closed}
 
 -- the product and the memory after a call: a refusal leaves both
@@ -15,6 +17,12 @@ product_after (Err e) p = p
 abbrev pub memory_after : Result Stored Refusal → List ℕ → List ℕ
 memory_after (Ok x) mem = x.memory
 memory_after (Err e) mem = mem
+
+-- what a call on an open product answers, and the product and the memory that it leaves
+pub record Mends (M : Meaning) (mem : List ℕ) (p : Product) (c : Call) (result : Result (Unit {0}) Refusal) (p' : Product) (mem' : List ℕ) : Type 0 where
+  pub answer : result ≡ passes (outcome M mem p c)
+  pub product : p' ≡ product_after (outcome M mem p c) p
+  pub after : mem' ≡ memory_after (outcome M mem p c) mem
 
 -- the product that was started
 abbrev pub opened_by : Result Stored Refusal → Result Open Refusal

@@ -1,5 +1,5 @@
 // The calls that start, mend, close and reopen a product.
-ghost use Rattle.products.specs.Answers.{product_after, memory_after, opened_by, shut_by, reopened_by};
+ghost use Rattle.products.specs.Answers.{Mends, memory_after, opened_by, shut_by, reopened_by};
 ghost use Rattle.products.specs.Calls.{outcome, started, adds, replaces, withdraws, closes, reopens};
 ghost use Rattle.products.specs.Plans.{Planned, Ready};
 ghost use Rattle.products.specs.Products.{of_open, of_closed};
@@ -45,9 +45,7 @@ impl Open {
         book: &B,
         given: Record,
     ) -> Result<(), Refusal>
-        ensures answer { result ≡ passes (outcome (B.meaning book.now) memory.old (of_open self.old) (adds (asked given.entry))) }
-        ensures product { of_open self.new ≡ product_after (outcome (B.meaning book.now) memory.old (of_open self.old) (adds (asked given.entry))) (of_open self.old) }
-        ensures after { memory.new ≡ memory_after (outcome (B.meaning book.now) memory.old (of_open self.old) (adds (asked given.entry))) memory.old }
+        ensures { Mends (B.meaning book.now) memory.old (of_open self.old) (adds (asked given.entry)) result (of_open self.new) memory.new }
     {
         let draft = self.check_add(memory, book, given)?;
         let part = Part {
@@ -90,9 +88,7 @@ impl Open {
         block: usize,
         given: Record,
     ) -> Result<(), Refusal>
-        ensures answer { result ≡ passes (outcome (B.meaning book.now) memory.old (of_open self.old) (replaces block (asked given.entry))) }
-        ensures product { of_open self.new ≡ product_after (outcome (B.meaning book.now) memory.old (of_open self.old) (replaces block (asked given.entry))) (of_open self.old) }
-        ensures after { memory.new ≡ memory_after (outcome (B.meaning book.now) memory.old (of_open self.old) (replaces block (asked given.entry))) memory.old }
+        ensures { Mends (B.meaning book.now) memory.old (of_open self.old) (replaces block (asked given.entry)) result (of_open self.new) memory.new }
     {
         let (part, draft) = self.check_replace(memory, book, block, given)?;
         self.bytes = put_block(memory, self.bytes, part, given, draft, book)?;
@@ -127,9 +123,7 @@ impl Open {
         book: &B,
         block: usize,
     ) -> Result<(), Refusal>
-        ensures answer { result ≡ passes (outcome (B.meaning book.now) memory.old (of_open self.old) (withdraws block)) }
-        ensures product { of_open self.new ≡ product_after (outcome (B.meaning book.now) memory.old (of_open self.old) (withdraws block)) (of_open self.old) }
-        ensures after { memory.new ≡ memory_after (outcome (B.meaning book.now) memory.old (of_open self.old) (withdraws block)) memory.old }
+        ensures { Mends (B.meaning book.now) memory.old (of_open self.old) (withdraws block) result (of_open self.new) memory.new }
     {
         let part = self.check_withdraw(memory, book, block)?;
         self.bytes = cut(memory, self.bytes, part)?;

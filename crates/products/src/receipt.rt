@@ -8,7 +8,6 @@ use books::book::Book;
 use judging::blocks::judge_block;
 use judging::faults::{BlockFault, Place, ReceiptFault};
 use judging::places::{Phase, is_end};
-use wire::pairs::bytes_known;
 
 /// The most bytes of a product.
 pub const MOST_BYTES: usize = 65_536;
@@ -63,7 +62,6 @@ impl Closed {
         ensures within { IfOk result (λ p. p.bytes ≤ length memory.now) }
         ensures written { IfOk result (AsWritten (B.meaning book.now) memory.now) }
     {
-        bytes_known(memory);
         check_count(memory.len(), count)?;
         walk_blocks(&memory[0..count], book)
     }
