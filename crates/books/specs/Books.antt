@@ -71,3 +71,8 @@ answered (Err f) place = Err f
 abbrev pub placed : Writing → List ℕ → List ℕ
 placed (Ok field) place = cond (length place == length field) field place
 placed (Err f) place = place
+
+-- a write into a place: what it answers, and what the place then holds
+pub record Writes (w : Writing) (place : List ℕ) (result : Result (Unit {0}) FieldFault) (place' : List ℕ) : Type 0 where
+  pub answer : result ≡ answered w place
+  pub after : place' ≡ placed w place

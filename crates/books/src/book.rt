@@ -1,5 +1,5 @@
 // What every book answers.
-ghost use Rattle.books.specs.Books.{Meaning, Lawful, judged, number_at, weighed, answered, placed};
+ghost use Rattle.books.specs.Books.{Meaning, Lawful, judged, number_at, weighed, Writes};
 ghost use Rattle.std.specs.Prelude.{◌≡◌};
 
 use crate::faults::FieldFault;
@@ -28,6 +28,5 @@ pub trait Book {
 
     /// Writes the list into a place of just its bytes; a refusal leaves the place as it was.
     fn write(&self, modes: Modes, list: &[i32], place: &mut [u8]) -> Result<(), FieldFault>
-        ensures answer { result ≡ answered ((meaning self.now).writing modes.mode modes.submode list.now) place.old }
-        ensures after { place.new ≡ placed ((meaning self.now).writing modes.mode modes.submode list.now) place.old };
+        ensures { Writes ((meaning self.now).writing modes.mode modes.submode list.now) place.old result place.new };
 }

@@ -1,5 +1,5 @@
 // What every kind answers.
-ghost use Rattle.books.specs.Books.{Agree, judged, number_at, weighed, answered, placed};
+ghost use Rattle.books.specs.Books.{Agree, judged, number_at, weighed, Writes};
 ghost use Rattle.kinds.specs.Kinds.{KindMeaning};
 ghost use Rattle.wire.specs.declared.modes.Modes.{Modes};
 ghost use Rattle.std.specs.Prelude.{◌≡◌};
@@ -32,6 +32,5 @@ pub trait Kind {
 
     /// Writes the list into a place of just its bytes; a refusal leaves the place as it was.
     fn write(&self, list: &[i32], place: &mut [u8]) -> Result<(), FieldFault>
-        ensures answer { result ≡ answered ((meaning self.now).writing list.now) place.old }
-        ensures after { place.new ≡ placed ((meaning self.now).writing list.now) place.old };
+        ensures { Writes ((meaning self.now).writing list.now) place.old result place.new };
 }

@@ -1,6 +1,6 @@
 // A record written as its block.
 ghost use Rattle.records.specs.Records.{says, block_writing, sealed};
-ghost use Rattle.books.specs.Books.{answered, placed};
+ghost use Rattle.books.specs.Books.{Writes};
 ghost use Rattle.wire.specs.Forms.{form_number, checksum_pairs};
 ghost use Rattle.wire.specs.Pairs.{pair_bytes};
 ghost use Rattle.wire.specs.declared.forms.Form.TheVariants.{Checksummed};
@@ -54,8 +54,7 @@ pub fn write_block<B: Book>(
     given: Record,
     book: &B,
 ) -> Result<(), FieldFault>
-    ensures answer { result ≡ answered (block_writing (B.meaning book.now) (says form given.entry.modes.mode given.entry.modes.submode given.entry.numbers.now)) place.old }
-    ensures after { place.new ≡ placed (block_writing (B.meaning book.now) (says form given.entry.modes.mode given.entry.modes.submode given.entry.numbers.now)) place.old }
+    ensures { Writes (block_writing (B.meaning book.now) (says form given.entry.modes.mode given.entry.modes.submode given.entry.numbers.now)) place.old result place.new }
 {
     numbers_known(given.numbers);
     let weight = book.weigh(given.modes, given.numbers)?;
