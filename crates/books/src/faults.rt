@@ -22,6 +22,8 @@ pub enum Rule {
 }
 
 impl Rule {
+    /// Its number in what is printed.
+    // A method with a name, where `u8::from` would not say what the number is.
     pub fn number(self) -> u8
         ensures { result ≡ rule_number self }
     {

@@ -33,6 +33,8 @@ pub enum BlockFault {
 }
 
 impl BlockFault {
+    /// Its number in what is printed.
+    // A method with a name, where `u8::from` would not say what the number is.
     pub fn number(self) -> u8
         ensures { result ≡ block_fault_number self }
     {
@@ -138,6 +140,8 @@ pub enum Refusal {
 }
 
 impl Refusal {
+    /// Its number in what is printed.
+    // A method with a name, where `u8::from` would not say what the number is.
     pub fn number(self) -> u8
         ensures { result ≡ refusal_number self }
     {

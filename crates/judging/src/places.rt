@@ -65,7 +65,7 @@ pub fn is_misplaced(block: usize, modes: Modes) -> bool
 fn is_definition(modes: Modes) -> bool
     ensures { result ≡ defines (class_of modes.mode modes.submode) }
 {
-    matches!(Class::of(modes), Class::Definition)
+    matches!(Class::from(modes), Class::Definition)
 }
 
 /// A definition that is not block 1.

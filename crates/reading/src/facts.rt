@@ -42,7 +42,7 @@ fn find_block<B: Book>(bytes: &[u8], block: usize, book: &B) -> Result<Facts, Re
         at,
         form: head.form,
         modes: head.modes,
-        class: Class::of(head.modes),
+        class: Class::from(head.modes),
         field: Part {
             from: at + 4,
             to: at + head.field_end(),

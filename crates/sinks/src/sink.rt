@@ -7,6 +7,8 @@ ghost use Rattle.sinks.specs.Sinks.{Took, full_number};
 pub struct Full;
 
 impl Full {
+    /// Its number in what is printed.
+    // A method with a name, where `u8::from` would not say what the number is.
     pub fn number(self) -> u8
         ensures { result ≡ full_number }
     {

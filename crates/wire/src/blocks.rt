@@ -39,6 +39,8 @@ impl From<NoSuchForm> for Malformed {
 }
 
 impl Malformed {
+    /// Its number in what is printed.
+    // A method with a name, where `u8::from` would not say what the number is.
     pub fn number(self) -> u8
         ensures { result ≡ malformed_number self }
     {

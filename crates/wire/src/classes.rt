@@ -68,18 +68,20 @@ fn from_tables(modes: Modes) -> Class
     }
 }
 
-impl Class {
-    /// The class of a mode and a submode.
-    pub fn of(modes: Modes) -> Class
-        ensures { result ≡ class_of modes.mode modes.submode }
-    {
+/// The class of a mode and a submode.
+impl From<Modes> for Class {
+    ghost from_gives = { λ modes class. class ≡ class_of modes.mode modes.submode };
+
+    fn from(modes: Modes) -> Class {
         match modes.mode {
             1 => Class::Control,
             2 => Class::Data,
             _ => from_tables(modes),
         }
     }
+}
 
+impl Class {
     pub fn name(self) -> &'static str
         ensures { result.now ≡ class_name self }
     {

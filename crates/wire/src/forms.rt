@@ -30,6 +30,8 @@ impl TryFrom<u16> for Form {
 }
 
 impl Form {
+    /// Its number, which is its flag on the wire.
+    // A method with a name, where `u8::from` would not say what the number is.
     pub fn number(self) -> u8
         ensures { result ≡ form_number self }
     {
