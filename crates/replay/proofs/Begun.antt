@@ -24,7 +24,7 @@ use Rattle.replay.specs.declared.steps.State.{State}
 use Rattle.replay.specs.declared.steps.State.TheVariants.{Opened as OpenState, Shut as ShutState}
 use Rattle.replay.specs.Beginnings.{state_started, state_received, begun, memory_begun, TypedBeginning}
 use Rattle.replay.specs.Replays.{in_phase, Lived}
-use Rattle.replay.specs.Steps.{product_in}
+use Rattle.replay.specs.States.{product_in}
 
 -- a state is its product in that phase
 pub state_is : (r : State) → in_phase (product_in r).phase (product_in r) ≡ r
@@ -61,5 +61,5 @@ module _ {S : Type 0} (taken : S → List ℕ) (room : S → ℕ) (M : Meaning) 
   lived_receive n known (Err r) h state e = absurd (let z : ◌≡◌ {A = ℕ} 0 1 = cc in omega arith)
 
   pub begun_lived : (b : Beginning) (state : State) → TypedBeginning mem b → Ok state ≡ begun M mem b → Lived taken room M s (product_in state) (memory_begun M mem b) s
-  begun_lived (Start closing form numbers) state known e = lived_start closing form (vec_items numbers) known _ refl state e
+  begun_lived (Start o) state known e = lived_start o.closing o.form (vec_items o.numbers) known _ refl state e
   begun_lived (Receive n) state known e = lived_receive n known _ refl state e

@@ -6,7 +6,6 @@ use Rattle.books.specs.Books.{Meaning, Lawful}
 use Rattle.judging.specs.declared.faults.Refusal.{Refusal}
 use Rattle.judging.specs.declared.places.Phase.{Phase}
 use Rattle.judging.specs.declared.places.Phase.TheVariants.{Opened, Shut}
-use Rattle.records.specs.Records.{gives}
 use Rattle.products.specs.Products.{Product, as_closed}
 use Rattle.products.specs.Calls.{Call, adds, replaces, withdraws, closes, reopens, wants, Stored, outcome}
 use Rattle.sending.specs.Sending.{pairs_in, sending}
@@ -14,6 +13,7 @@ use Rattle.sinks.specs.Sinks.{Took}
 use Rattle.sinks.proofs.Pairing.{took_more}
 use Rattle.lives.specs.Lives.{World, Typed, Step as LifeStep, called, sends as sends_on, goes_on}
 use Rattle.lives.proofs.Living.{sending_told, one_life}
+use Rattle.replay.specs.Entries.{entered}
 use Rattle.replay.specs.declared.steps.Step.{Step}
 use Rattle.replay.specs.declared.steps.Step.TheVariants.{Add, Replace, Withdraw, Close, Reopen, Send}
 use Rattle.replay.specs.declared.steps.Told.{Told}
@@ -64,8 +64,8 @@ puts_if true x p mem h = h
 puts_if false x p mem h = refl
 
 puts : (M : Meaning) (room : ℕ) (p : Product) (mem : List ℕ) (s : Step) → Puts (played M room p mem s).put (played M room p mem s).told
-puts M room p mem (Add f m s ns) = puts_if (same_phase p.phase Opened) _ p mem (puts_call (outcome M mem p (adds (gives f m s (vec_items ns)))) p mem)
-puts M room p mem (Replace k f m s ns) = puts_if (same_phase p.phase Opened) _ p mem (puts_call (outcome M mem p (replaces k (gives f m s (vec_items ns)))) p mem)
+puts M room p mem (Add e) = puts_if (same_phase p.phase Opened) _ p mem (puts_call (outcome M mem p (adds (entered e))) p mem)
+puts M room p mem (Replace k e) = puts_if (same_phase p.phase Opened) _ p mem (puts_call (outcome M mem p (replaces k (entered e))) p mem)
 puts M room p mem (Withdraw k) = puts_if (same_phase p.phase Opened) _ p mem (puts_call (outcome M mem p (withdraws k)) p mem)
 puts M room p mem Close = puts_if (same_phase p.phase Opened) _ p mem (puts_call (outcome M mem p closes) p mem)
 puts M room p mem Reopen = puts_if (same_phase p.phase Shut) _ p mem (puts_call (outcome M mem p reopens) p mem)
@@ -151,8 +151,8 @@ module _ {S : Type 0} (taken : S → List ℕ) (room : S → ℕ) (wrote : S →
 
     by_step : (step : Step) (u : S) → TypedIn p.phase step → Sunk taken room wrote t (played M (room t) p mem step).put u (played M (room t) p mem step).told
         → Living s (played M (room t) p mem step).product (played M (room t) p mem step).memory u
-    by_step (Add f m i ns) u known k = lived_calls (adds (gives f m i (vec_items ns))) (λ e. subst (λ ph. TypedIn ph (Add f m i ns)) e known) u _ k
-    by_step (Replace b f m i ns) u known k = lived_calls (replaces b (gives f m i (vec_items ns))) (λ e. subst (λ ph. TypedIn ph (Replace b f m i ns)) e known) u _ k
+    by_step (Add x) u known k = lived_calls (adds (entered x)) (λ e. subst (λ ph. TypedIn ph (Add x)) e known) u _ k
+    by_step (Replace b x) u known k = lived_calls (replaces b (entered x)) (λ e. subst (λ ph. TypedIn ph (Replace b x)) e known) u _ k
     by_step (Withdraw b) u known k = lived_calls (withdraws b) (λ e. tt) u _ k
     by_step Close u known k = lived_calls closes (λ e. tt) u _ k
     by_step Reopen u known k = lived_calls reopens (λ e. tt) u _ k

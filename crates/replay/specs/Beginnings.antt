@@ -26,15 +26,15 @@ state_received (Ok p) = Ok (Shut p)
 state_received (Err e) = Err (NoReceipt e)
 
 abbrev pub begun : Meaning → List ℕ → Beginning → Result State NotBegun
-begun M mem (Start closing form numbers) = state_started (opened_by (started M mem closing form (vec_items numbers)))
+begun M mem (Start o) = state_started (opened_by (started M mem o.closing o.form (vec_items o.numbers)))
 begun M mem (Receive count) = state_received (received M mem count)
 
 -- the memory after it
 abbrev pub memory_begun : Meaning → List ℕ → Beginning → List ℕ
-memory_begun M mem (Start closing form numbers) = memory_after (started M mem closing form (vec_items numbers)) mem
+memory_begun M mem (Start o) = memory_after (started M mem o.closing o.form (vec_items o.numbers)) mem
 memory_begun M mem (Receive count) = mem
 
 -- numbers are of 32 bits and a memory is bytes, as their types have it
 abbrev pub TypedBeginning : List ℕ → Beginning → Type 0
-TypedBeginning mem (Start closing form numbers) = AllByRecursion Number (vec_items numbers)
+TypedBeginning mem (Start o) = AllByRecursion Number (vec_items o.numbers)
 TypedBeginning mem (Receive count) = Bytes mem

@@ -14,7 +14,8 @@ use Rattle.replay.specs.declared.steps.State.TheVariants.{Opened as OpenState, S
 use Rattle.replay.specs.declared.steps.Step.{Step}
 use Rattle.replay.specs.declared.steps.Told.{Told}
 use Rattle.replay.specs.Beginnings.{begun, memory_begun}
-use Rattle.replay.specs.Steps.{Scene, product_in, played}
+use Rattle.replay.specs.States.{product_in}
+use Rattle.replay.specs.Steps.{Scene, played}
 
 -- what steps were told, the product and the memory after them, and all pairs that they put
 pub record Run : Type 0 where

@@ -5,22 +5,16 @@ use Rattle.std.specs.List.{AllByRecursion}
 use Rattle.judging.specs.declared.faults.Refusal.{Refusal}
 use Rattle.judging.specs.declared.places.Phase.{Phase}
 use Rattle.judging.specs.declared.places.Phase.TheVariants.{Opened, Shut}
-use Rattle.records.specs.Records.{gives}
-use Rattle.products.specs.Products.{Product, of_open, of_closed, as_closed}
+use Rattle.products.specs.Products.{Product, as_closed}
 use Rattle.products.specs.Calls.{Call, adds, replaces, withdraws, closes, reopens, wants, Stored, outcome}
 use Rattle.sending.specs.Sending.{pairs_in, sending}
 use Rattle.sinks.specs.Sinks.{Took}
 use Rattle.products.specs.declared.tally.Tally.{Tally}
-use Rattle.replay.specs.declared.steps.State.{State}
-use Rattle.replay.specs.declared.steps.State.TheVariants.{Opened as OpenState, Shut as ShutState}
+use Rattle.replay.specs.Entries.{entered}
 use Rattle.replay.specs.declared.steps.Step.{Step}
 use Rattle.replay.specs.declared.steps.Step.TheVariants.{Add, Replace, Withdraw, Close, Reopen, Send}
 use Rattle.replay.specs.declared.steps.Told.{Told}
 use Rattle.replay.specs.declared.steps.Told.TheVariants.{NotAllowed, Refused, Made, Sent}
-
-abbrev pub product_in : State → Product
-product_in (OpenState p) = of_open p
-product_in (ShutState p) = of_closed p
 
 -- a step's outcome
 pub record Scene : Type 0 where
@@ -63,8 +57,8 @@ sends M room p mem = cond (same_phase p.phase Shut) (told_sending (sending M mem
 
 -- a step on a product and its memory, with a sink that has so much room
 abbrev pub played : Meaning → ℕ → Product → List ℕ → Step → Scene
-played M room p mem (Add form mode submode numbers) = calls M p mem (adds (gives form mode submode (vec_items numbers)))
-played M room p mem (Replace block form mode submode numbers) = calls M p mem (replaces block (gives form mode submode (vec_items numbers)))
+played M room p mem (Add entry) = calls M p mem (adds (entered entry))
+played M room p mem (Replace block entry) = calls M p mem (replaces block (entered entry))
 played M room p mem (Withdraw block) = calls M p mem (withdraws block)
 played M room p mem Close = calls M p mem closes
 played M room p mem Reopen = calls M p mem reopens
@@ -72,8 +66,8 @@ played M room p mem Send = sends M room p mem
 
 -- the numbers of a step are of 32 bits, as the type of its list has it
 abbrev pub TypedOpen : Step → Type 0
-TypedOpen (Add form mode submode numbers) = AllByRecursion Number (vec_items numbers)
-TypedOpen (Replace block form mode submode numbers) = AllByRecursion Number (vec_items numbers)
+TypedOpen (Add entry) = AllByRecursion Number (vec_items entry.numbers)
+TypedOpen (Replace block entry) = AllByRecursion Number (vec_items entry.numbers)
 TypedOpen (Withdraw block) = Unit {0}
 TypedOpen Close = Unit {0}
 TypedOpen Reopen = Unit {0}

@@ -10,17 +10,19 @@ use products::closed::Closed;
 use products::opened::Open;
 use wire::pairs::bytes_known;
 
+/// What a product is started with: its closing form, and the form and the list of its identification.
+#[derive(Drop)]
+pub struct Opening {
+    pub closing: u8,
+    pub form: u8,
+    pub numbers: Vec<i32>,
+}
+
 /// The first call of a life: the start of a product, or the receipt of what lies in the memory.
 #[derive(Drop)]
 pub enum Beginning {
-    Start {
-        closing: u8,
-        form: u8,
-        numbers: Vec<i32>,
-    },
-    Receive {
-        count: usize,
-    },
+    Start(Opening),
+    Receive { count: usize },
 }
 
 /// Why no product came about.
@@ -37,24 +39,18 @@ pub fn begin<B: Book>(beginning: &Beginning, memory: &mut [u8], book: &B) -> Res
     ensures after { memory.new ≡ memory_begun (B.meaning book.now) memory.old beginning.now }
 {
     match beginning {
-        Beginning::Start {
-            closing,
-            form,
-            numbers,
-        } => {
-            let list = numbers.as_slice();
+        Beginning::Start(opening) => {
+            let list = opening.numbers.as_slice();
             numbers_known(list);
-            match Open::start(memory, book, *closing, *form, list) {
-                Ok(product) => Ok(State::Opened(product)),
-                Err(refusal) => Err(NotBegun::Start(refusal)),
-            }
+            Open::start(memory, book, opening.closing, opening.form, list)
+                .map(State::Opened)
+                .map_err(NotBegun::Start)
         }
         Beginning::Receive { count } => {
             bytes_known(memory);
-            match Closed::receive(memory, *count, book) {
-                Ok(product) => Ok(State::Shut(product)),
-                Err(fault) => Err(NotBegun::Receipt(fault)),
-            }
+            Closed::receive(memory, *count, book)
+                .map(State::Shut)
+                .map_err(NotBegun::Receipt)
         }
     }
 }

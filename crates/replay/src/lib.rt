@@ -2,6 +2,7 @@
 #![tactic(auto)]
 
 pub mod beginning;
+pub mod entries;
 pub mod playing;
 pub mod replaying;
 pub mod steps;

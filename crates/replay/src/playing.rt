@@ -1,30 +1,36 @@
 // One step of a life.
-ghost use Rattle.products.specs.Products.{of_open, of_closed};
+ghost use Rattle.products.specs.Products.{of_open, of_closed, tally_of};
 ghost use Rattle.products.specs.Calls.{closes, reopens};
-ghost use Rattle.replay.specs.Steps.{Scene, product_in, told_of, calls, played, TypedOpen, TypedIn, Sunk};
+ghost use Rattle.replay.specs.States.{product_in};
+ghost use Rattle.replay.specs.Steps.{Scene, told_of, calls, played, TypedOpen, TypedIn, Sunk};
+ghost use Rattle.replay.specs.declared.steps.State.TheVariants.{Opened as OpenState};
+ghost use Rattle.replay.specs.declared.steps.Told.TheVariants.{Made};
 ghost use Rattle.std.specs.Prelude.{◌≡◌, []};
 
 use crate::steps::{State, Step, Told};
 use books::book::Book;
-use books::known::numbers_known;
 use judging::faults::Refusal;
 use products::closed::Closed;
 use products::kept::Kept;
 use products::opened::Open;
-use products::tally::Tally;
-use records::drafts::Record;
 use sending::send;
 use sinks::sink::Sink;
 
-fn told_of(answer: Result<(), Refusal>, tally: Tally) -> Told
-    ensures { result ≡ told_of answer tally }
+/// The product, and what a call that made it is told.
+fn made(state: State) -> (State, Told)
+    ensures { result ≡ (state, Made (product_in state).bytes (product_in state).blocks) }
+{
+    let told = state.tally().into();
+    (state, told)
+}
+
+/// The product after a call that leaves it open, and what the call is told.
+fn answered(product: Open, answer: Result<(), Refusal>) -> (State, Told)
+    ensures { result ≡ (OpenState product, told_of answer (tally_of (of_open product))) }
 {
     match answer {
-        Ok(()) => Told::Made {
-            bytes: tally.bytes,
-            blocks: tally.blocks,
-        },
-        Err(refusal) => Told::Refused(refusal),
+        Ok(()) => made(State::Opened(product)),
+        Err(refusal) => (State::Opened(product), Told::Refused(refusal)),
     }
 }
 
@@ -33,45 +39,17 @@ fn play_open<B: Book>(mut product: Open, step: &Step, memory: &mut [u8], book: &
     ensures scene { ◌≡◌ {A = Scene} (record { told = result.1; product = product_in result.0; memory = memory.new; put = [] }) (played (B.meaning book.now) 0 (of_open product) memory.old step.now) }
 {
     match step {
-        Step::Add {
-            form,
-            mode,
-            submode,
-            numbers,
-        } => {
-            let given = Record {
-                form: *form,
-                mode: *mode,
-                submode: *submode,
-                numbers: numbers.as_slice(),
-            };
-            numbers_known(given.numbers);
-            let answer = product.add(memory, book, given);
-            let told = told_of(answer, product.tally());
-            (State::Opened(product), told)
+        Step::Add(entry) => {
+            let answer = product.add(memory, book, entry.into());
+            answered(product, answer)
         }
-        Step::Replace {
-            block,
-            form,
-            mode,
-            submode,
-            numbers,
-        } => {
-            let given = Record {
-                form: *form,
-                mode: *mode,
-                submode: *submode,
-                numbers: numbers.as_slice(),
-            };
-            numbers_known(given.numbers);
-            let answer = product.replace(memory, book, *block, given);
-            let told = told_of(answer, product.tally());
-            (State::Opened(product), told)
+        Step::Replace { block, entry } => {
+            let answer = product.replace(memory, book, *block, entry.into());
+            answered(product, answer)
         }
         Step::Withdraw { block } => {
             let answer = product.withdraw(memory, book, *block);
-            let told = told_of(answer, product.tally());
-            (State::Opened(product), told)
+            answered(product, answer)
         }
         Step::Close => close_step(product, memory, book),
         Step::Reopen | Step::Send => (State::Opened(product), Told::NotAllowed),
@@ -82,14 +60,8 @@ fn close_step<B: Book>(product: Open, memory: &mut [u8], book: &B) -> (State, To
     ensures { ◌≡◌ {A = Scene} (record { told = result.1; product = product_in result.0; memory = memory.new; put = [] }) (calls (B.meaning book.now) (of_open product) memory.old closes) }
 {
     match product.close(memory, book) {
-        Ok(closed) => {
-            let told = told_of(Ok(()), closed.tally());
-            (State::Shut(closed), told)
-        }
-        Err(kept) => {
-            let Kept { product, refusal } = kept;
-            (State::Opened(product), Told::Refused(refusal))
-        }
+        Ok(closed) => made(State::Shut(closed)),
+        Err(Kept { product, refusal }) => (State::Opened(product), Told::Refused(refusal)),
     }
 }
 
@@ -97,14 +69,8 @@ fn reopen_step<B: Book>(product: Closed, memory: &mut [u8], book: &B) -> (State,
     ensures { ◌≡◌ {A = Scene} (record { told = result.1; product = product_in result.0; memory = memory.new; put = [] }) (calls (B.meaning book.now) (of_closed product) memory.old reopens) }
 {
     match product.reopen(memory, book) {
-        Ok(open) => {
-            let told = told_of(Ok(()), open.tally());
-            (State::Opened(open), told)
-        }
-        Err(kept) => {
-            let Kept { product, refusal } = kept;
-            (State::Shut(product), Told::Refused(refusal))
-        }
+        Ok(opened) => made(State::Opened(opened)),
+        Err(Kept { product, refusal }) => (State::Shut(product), Told::Refused(refusal)),
     }
 }
 

@@ -1,6 +1,6 @@
 // A life, from its beginning through all steps.
 ghost use Rattle.replay.specs.Replays.{run_told, places_after, replayed, ends_in, ends_with, tells, Sank, Lived};
-ghost use Rattle.replay.specs.Steps.{product_in};
+ghost use Rattle.replay.specs.States.{product_in};
 ghost use Rattle.sinks.specs.Sinks.{Took};
 ghost use Rattle.std.specs.Prelude.{◌≡◌, IfOk};
 

@@ -3,7 +3,7 @@ use Rattle.std.proofs.lemmas.List.{take_more_set, drop-set-lt, drop-drop, take-a
 use Rattle.sinks.specs.Sinks.{Took}
 use Rattle.sinks.proofs.Pairing.{took_none}
 use Rattle.replay.specs.Replays.{run, run_told, places_after}
-use Rattle.replay.specs.Steps.{product_in}
+use Rattle.replay.specs.States.{product_in}
 use Rattle.replay.proofs.Running.{sunk_more, lived_more, run_more, take_fewer, lived_as}
 use Rattle.replay.proofs.replaying.play_all.Goals as goal
 

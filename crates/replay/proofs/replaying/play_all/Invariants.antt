@@ -1,7 +1,7 @@
 use Rattle.std.proofs.Common.{◌≡◌, take, drop}
 use Rattle.sinks.specs.Sinks.{Took}
 use Rattle.replay.specs.Replays.{run, Lived}
-use Rattle.replay.specs.Steps.{product_in}
+use Rattle.replay.specs.States.{product_in}
 use Rattle.replay.proofs.replaying.play_all.Given as goal
 
 -- the first i steps are done

@@ -1,7 +1,7 @@
 use Rattle.std.proofs.Common.{◌≡◌, Ok, sym, ap, ◌∙◌, subst}
 use Rattle.replay.specs.Beginnings.{memory_begun}
 use Rattle.replay.specs.Replays.{run_told, run_from, replayed, in_phase, ends_in, ends_with, tells, Sank}
-use Rattle.replay.specs.Steps.{product_in}
+use Rattle.replay.specs.States.{product_in}
 use Rattle.replay.proofs.Begun.{state_is, begun_lived}
 use Rattle.replay.proofs.Running.{lived_as}
 use Rattle.replay.proofs.replaying.replay.Goals as goal
