@@ -1,7 +1,8 @@
 -- One step more of a run.
-use Rattle.std.proofs.Common.{◌≡◌, ℕ, ◌+◌, ◌-◌, ◌<◌, min, Bool, true, false, cond, List, [], ◌∷◌, ◌++◌, length, get_or, take, Ok, Err, vec_items, Result, sym, refl, ap, ◌∙◌, subst, ap₂, inl, inr, arith}
-use Rattle.std.proofs.lemmas.List.{append-nil, append_assoc, length-append, take_more, take_all}
+use Rattle.std.proofs.Common.{◌≡◌, ℕ, ◌+◌, ◌-◌, ◌<◌, ◌≤◌, drop, min, Bool, true, false, cond, List, [], ◌∷◌, ◌++◌, length, get_or, set, take, Ok, Err, vec_items, Result, sym, refl, ap, ◌∙◌, subst, ap₂, inl, inr, arith}
+use Rattle.std.proofs.lemmas.List.{append-nil, append_assoc, length-append, length-drop, length-take-le, take_more, take_more_set, take_all, take-append-drop, drop-set-lt, drop-drop}
 use Rattle.std.proofs.lemmas.Bool.{cases_lt}
+use Rattle.std.proofs.Math.Seq.{drop-cons}
 use Rattle.books.specs.Books.{Meaning, Lawful}
 use Rattle.judging.specs.declared.faults.Refusal.{Refusal}
 use Rattle.judging.specs.declared.places.Phase.{Phase}
@@ -10,7 +11,7 @@ use Rattle.products.specs.Products.{Product, as_closed}
 use Rattle.products.specs.Calls.{Call, adds, replaces, withdraws, closes, reopens, wants, Stored, outcome}
 use Rattle.sending.specs.Sending.{pairs_in, sending}
 use Rattle.sinks.specs.Sinks.{Took}
-use Rattle.sinks.proofs.Pairing.{took_more}
+use Rattle.sinks.proofs.Pairing.{took_none, took_more}
 use Rattle.lives.specs.Lives.{World, Typed, Step as LifeStep, called, sends as sends_on, goes_on}
 use Rattle.lives.proofs.Living.{sending_told, one_life}
 use Rattle.replay.specs.Entries.{entered}
@@ -19,7 +20,7 @@ use Rattle.replay.specs.declared.steps.Step.TheVariants.{Add, Replace, Withdraw,
 use Rattle.replay.specs.declared.steps.Told.{Told}
 use Rattle.replay.specs.declared.steps.Told.TheVariants.{NotAllowed, Refused, Made, Sent}
 use Rattle.replay.specs.Steps.{Scene, passed_over, told_call, told_sending, same_phase, calls, sends, played, TypedIn, Sunk}
-use Rattle.replay.specs.Replays.{Run, followed_by, run, Lived}
+use Rattle.replay.specs.Replays.{Run, followed_by, run, run_told, places_after, Lived}
 
 -- ---- a run and then a step
 abbrev pub then_step : Run → Scene → Run
@@ -166,26 +167,93 @@ module _ {S : Type 0} (taken : S → List ℕ) (room : S → ℕ) (wrote : S →
 ap₃ : {A B C D : Type 0} (g : A → B → C → D) {a a' : A} {b b' : B} {c c' : C} → a ≡ a' → b ≡ b' → c ≡ c' → g a b c ≡ g a' b' c'
 ap₃ g p q r = λ i. g (p i) (q i) (r i)
 
-module _ {S : Type 0} (taken : S → List ℕ) (room : S → ℕ) (wrote : S → List ℕ → S → Type 0) (M : Meaning) (s : S) (p : Product) (mem : List ℕ) (steps : List Step) (i : ℕ) where
-  abbrev pub so_far : Run
-  so_far = run M (room s) p mem (take i steps)
+pub lived_as : {S : Type 0} (taken : S → List ℕ) (room : S → ℕ) (M : Meaning) (s : S) (p q : Product) (mem after : List ℕ) (t : S) → Lived taken room M s p mem t → q ≡ p → after ≡ mem → Lived taken room M s q after t
+lived_as taken room M s p q mem after t l e f =
+    record { world = l.world; life = l.life; product_is = l.product_is ∙ sym e; memory_is = l.memory_is ∙ sym f; sink_is = l.sink_is; law = l.law }
 
-  pub run_more : (q : Product) (after : List ℕ) (t : S) (step : Step) → i < length steps → step ≡ get_or steps i step → q ≡ so_far.product → after ≡ so_far.memory
-      → Took taken room wrote s so_far.put t → run M (room s) p mem (take (i + 1) steps) ≡ then_step so_far (played M (room t) q after step)
-  run_more q after t step h is e f k =
-      let free : room s - length so_far.put ≡ room t = omega (arith, k.left) in
-      ap (run M (room s) p mem) (take_more steps i step h ∙ ap (λ y. take i steps ++ (y ∷ [])) (sym is))
-      ∙ run_snoc M (room s) p mem (take i steps) step
-      ∙ ap (then_step so_far) (ap₃ (λ r u v. played M r u v step) free (sym e) (sym f))
+-- the next of the items that are left behind the first i
+next_place : {X : Type 0} (xs : List X) (i : ℕ) (x : X) (rest : List X) → x ∷ rest ≡ drop i xs → i < length xs
+next_place xs i x rest h = omega (arith, length-drop i xs, ap length h)
+
+next_more : {X : Type 0} (xs : List X) (i : ℕ) (x : X) (rest : List X) → x ∷ rest ≡ drop i xs → take (i + 1) xs ≡ take i xs ++ (x ∷ [])
+next_more xs i x rest h =
+    let place = next_place xs i x rest h in
+    let cut = drop-cons xs i x place in
+    let here : get_or xs i x ≡ x = cc in
+    take_more xs i x place ∙ ap (λ y. take i xs ++ (y ∷ [])) here
 
 -- as many as there are, or as many as are asked for
-pub take_fewer : {X : Type 0} (xs : List X) (n i : ℕ) → i ≡ min (length xs) n → take i xs ≡ take n xs
+take_fewer : {X : Type 0} (xs : List X) (n i : ℕ) → i ≡ min (length xs) n → take i xs ≡ take n xs
 take_fewer xs n i e =
     elim (cases_lt n (length xs)) [
       | inl h ↦ ap (λ k. take k xs) (omega arith)
       | inr h ↦ take_all i xs (omega arith) ∙ sym (take_all n xs h)
     ]
 
-pub lived_as : {S : Type 0} (taken : S → List ℕ) (room : S → ℕ) (M : Meaning) (s : S) (p q : Product) (mem after : List ℕ) (t : S) → Lived taken room M s p mem t → q ≡ p → after ≡ mem → Lived taken room M s q after t
-lived_as taken room M s p q mem after t l e f =
-    record { world = l.world; life = l.life; product_is = l.product_is ∙ sym e; memory_is = l.memory_is ∙ sym f; sink_is = l.sink_is; law = l.law }
+module _ {S : Type 0} (taken : S → List ℕ) (room : S → ℕ) (wrote : S → List ℕ → S → Type 0) (M : Meaning) (s : S) (p : Product) (mem : List ℕ) (steps : List Step) (places : List Told) where
+  -- all that the first i steps make
+  abbrev pub so_far : ℕ → Run
+  so_far i = run M (room s) p mem (take i steps)
+
+  -- those steps are done, told at the first i places, and left this product, memory and sink
+  pub record SoFar (i : ℕ) (rest : List Step) (told : List Told) (q : Product) (after : List ℕ) (t : S) : Type 0 where
+    pub within : i ≤ length steps
+    pub left : rest ≡ drop i steps
+    pub told_is : take i told ≡ (so_far i).told
+    pub untold : drop i told ≡ drop i places
+    pub product_is : q ≡ (so_far i).product
+    pub memory_is : after ≡ (so_far i).memory
+    pub took : Took taken room wrote s (so_far i).put t
+    pub lived : Lived taken room M s p mem s → Lived taken room M s q after t
+
+  pub none_so_far : (rest : List Step) → rest ≡ steps → wrote s [] s → SoFar 0 rest places p mem s
+  unfolding run
+  none_so_far rest e w = record {
+    within = omega arith;
+    left = e;
+    told_is = refl;
+    untold = refl;
+    product_is = refl;
+    memory_is = refl;
+    took = took_none _ taken room wrote s w;
+    lived = λ l. l;
+  }
+
+  pub more_so_far : Lawful M → (i : ℕ) (rest rest' : List Step) (told : List Told) (q q' : Product) (after after' : List ℕ) (t t' : S) (step : Step) (what : Told) → SoFar i rest told q after t → rest ≡ step ∷ rest' → i < length told
+      → TypedIn q.phase step → what ≡ (played M (room t) q after step).told → q' ≡ (played M (room t) q after step).product → after' ≡ (played M (room t) q after step).memory
+      → Sunk taken room wrote t (played M (room t) q after step).put t' what → SoFar (i + 1) rest' (set told i what) q' after' t'
+  more_so_far L i rest rest' told q q' after after' t t' step what l next place known told_is product_is memory_is sunk =
+      let next' : step ∷ rest' ≡ drop i steps = sym next ∙ l.left in
+      let fewer = next_place steps i step rest' next' in
+      let free : room s - length (so_far i).put ≡ room t = omega (arith, l.took.left) in
+      let more : so_far (i + 1) ≡ then_step (so_far i) (played M (room t) q after step) = ap (run M (room s) p mem) (next_more steps i step rest' next') ∙ run_snoc M (room s) p mem (take i steps) step ∙ ap (then_step (so_far i)) (ap₃ (λ r u v. played M r u v step) free (sym l.product_is) (sym l.memory_is)) in
+      let took = sunk_more taken room wrote M _ q after step s t t' _ what l.took told_is sunk in
+      record {
+        within = omega (arith, fewer);
+        left = ap (drop 1) next' ∙ drop-drop 1 i steps;
+        told_is = take_more_set told i what place ∙ ap₂ (λ u v. u ++ (v ∷ [])) l.told_is told_is ∙ sym (ap (λ x. x.told) more);
+        untold = drop-set-lt (i + 1) told i what (omega arith) ∙ sym (drop-drop 1 i told) ∙ ap (drop 1) l.untold ∙ drop-drop 1 i places;
+        product_is = product_is ∙ sym (ap (λ x. x.product) more);
+        memory_is = memory_is ∙ sym (ap (λ x. x.memory) more);
+        took = subst (λ ps. Took taken room wrote s ps t') (sym (ap (λ x. x.put) more)) took;
+        lived = λ k. lived_as taken room M s _ q' _ after' t' (lived_more taken room wrote M L s q after t (l.lived k) step t' what known told_is sunk) product_is memory_is;
+      }
+
+  -- the steps are done for which there are places
+  pub record AllDone (told : List Told) (q : Product) (after : List ℕ) (t : S) : Type 0 where
+    pub told_is : told ≡ places_after (run_told M (room s) p mem steps places) places
+    pub product_is : q ≡ (run_told M (room s) p mem steps places).product
+    pub memory_is : after ≡ (run_told M (room s) p mem steps places).memory
+    pub took : Took taken room wrote s (run_told M (room s) p mem steps places).put t
+
+  pub all_done : (i : ℕ) (rest : List Step) (told : List Told) (q : Product) (after : List ℕ) (t : S) → SoFar i rest told q after t → length told ≡ length places → i ≡ min (length steps) (length places) → AllDone told q after t
+  all_done i rest told q after t l long end =
+      let all : so_far i ≡ run_told M (room s) p mem steps places = ap (run M (room s) p mem) (take_fewer steps (length places) i end) in
+      let first : length (take i told) ≡ i = length-take-le i told (omega (arith, long)) in
+      let told_is : told ≡ places_after (so_far i) places = sym (take-append-drop i told) ∙ ap₂ ◌++◌ l.told_is l.untold ∙ ap (λ n. (so_far i).told ++ drop n places) (sym first ∙ ap length l.told_is) in
+      record {
+        told_is = told_is ∙ ap (λ x. places_after x places) all;
+        product_is = l.product_is ∙ ap (λ x. x.product) all;
+        memory_is = l.memory_is ∙ ap (λ x. x.memory) all;
+        took = subst (λ ps. Took taken room wrote s ps t) (ap (λ x. x.put) all) l.took;
+      }

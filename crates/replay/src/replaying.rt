@@ -27,11 +27,14 @@ fn play_all<B: Book, S: Sink>(
 {
     let mut state = start;
     let _ = sink.space();
-    let count = steps.len().min(told.len());
-    for i in 0..count {
-        let (next, what) = play(state, &steps[i], memory, book, sink);
+    let mut rest = steps.iter();
+    for place in told.iter_mut() {
+        let Some(step) = rest.next() else {
+            break;
+        };
+        let (next, what) = play(state, step, memory, book, sink);
         state = next;
-        told[i] = what;
+        *place = what;
     }
     state
 }

@@ -1,18 +1,11 @@
-use Rattle.std.proofs.Common.{◌≡◌, sym, ap, ◌∙◌}
+use Rattle.std.proofs.Common.{sym, ap, ◌∙◌}
 use Rattle.products.specs.Products.{of_closed}
-use Rattle.replay.specs.Steps.{played, told_sending, turned_down}
+use Rattle.replay.specs.Steps.{played, told_sending}
 use Rattle.replay.proofs.playing.play_closed.Goals as goal
 
-pub returns-in-Err : goal.returns-in-Err
-returns-in-Err g c =
-    let M = g.B.Book.meaning c.args.book.now in
-    let room = g.S.Sink.room c.args.sink.now in
+pub returns-in-Err-clause-told : goal.returns-in-Err-clause-told
+returns-in-Err-clause-told g c =
     let p = of_closed c.args.product in
     let mem = c.args.memory.now in
-    let is : played M room p mem c.args.step.now ≡ turned_down c.in-Err.refusal p mem = ap (played M room p mem) c.in-Send.is ∙ ap (λ w. told_sending w p mem) (sym c.send.ensures.answer ∙ c.in-Err.is) in
-    record {
-      told = sym (ap (λ x. x.told) is);
-      product = sym (ap (λ x. x.product) is);
-      after = sym (ap (λ x. x.memory) is);
-      sunk = c.in-Err.ensures.after;
-    }
+    ap (λ w. (told_sending w p mem).told) (sym c.in-Err.is ∙ c.send.ensures.answer)
+    ∙ ap (λ s. (played (g.B.Book.meaning c.args.book.now) (g.S.Sink.room c.args.sink.now) p mem s).told) (sym c.in-Send.is)
