@@ -1,36 +1,32 @@
--- Commands as the definitions of the calls have them.
-use Rattle.std.specs.Prelude.{◌≡◌, ℕ, ◌≤◌, List, take, vec_items, codes}
+-- Commands, and the words that their lines begin with.
+use Rattle.std.specs.Prelude.{◌≡◌, ℕ, ◌≤◌, List, take, codes}
 use Prim.{Unit}
-use Rattle.records.specs.Records.{Given, gives}
 use Rattle.commands.specs.declared.command.Command.{Command}
-use Rattle.commands.specs.declared.command.Command.TheVariants.{Memory, Start, Receive, Add, Replace, Withdraw, Close, Reopen}
-use Rattle.commands.specs.declared.command.Entry.{Entry}
-
--- what an entry gives to a call
-abbrev pub entered : Entry → Given
-entered e = gives e.form e.mode e.submode (vec_items e.numbers)
+use Rattle.commands.specs.declared.command.Command.TheVariants.{Memory, Start, Receive, Step}
+use Rattle.replay.specs.declared.steps.Step.{Step as Call}
+use Rattle.replay.specs.declared.steps.Step.TheVariants.{Add, Replace, Withdraw, Close, Reopen, Send}
 
 -- no command asks for more memory than a script may have
 abbrev pub InBounds : Command → Type 0
 InBounds (Memory n) = n ≤ 1048576
-InBounds (Start c f xs) = Unit {0}
+InBounds (Start o) = Unit {0}
 InBounds (Receive bs) = Unit {0}
-InBounds (Add e) = Unit {0}
-InBounds (Replace k e) = Unit {0}
-InBounds (Withdraw k) = Unit {0}
-InBounds Close = Unit {0}
-InBounds Reopen = Unit {0}
+InBounds (Step s) = Unit {0}
 
--- the word that a command's line begins with
+-- the word that a command's line begins with; no line is read as a sending
+abbrev pub step_word : Call → List ℕ
+step_word (Add e) = codes "add"
+step_word (Replace k e) = codes "replace"
+step_word (Withdraw k) = codes "withdraw"
+step_word Close = codes "close"
+step_word Reopen = codes "reopen"
+step_word Send = codes "send"
+
 abbrev pub word_of : Command → List ℕ
 word_of (Memory n) = codes "memory"
-word_of (Start c f xs) = codes "start"
+word_of (Start o) = codes "start"
 word_of (Receive bs) = codes "receive"
-word_of (Add e) = codes "add"
-word_of (Replace k e) = codes "replace"
-word_of (Withdraw k) = codes "withdraw"
-word_of Close = codes "close"
-word_of Reopen = codes "reopen"
+word_of (Step s) = step_word s
 
 -- a text begins with a word
 abbrev pub Begins : List ℕ → List ℕ → Type 0

@@ -1,58 +1,34 @@
 // The commands of a script.
-ghost use Rattle.commands.specs.Commands.{InBounds, Begins, entered, word_of};
-ghost use Rattle.records.specs.Asked.{asked};
+ghost use Rattle.commands.specs.Commands.{InBounds, Begins, step_word, word_of};
 ghost use Rattle.std.specs.Prelude.{◌≡◌, IfOk, codes};
 
 use crate::faults::ScriptFault;
 use crate::words::{read_byte, read_capped, read_hex, read_natural, read_number};
-use records::drafts::Record;
+use replay::beginning::Opening;
+use replay::entries::Entry;
+use replay::steps::Step;
 use std::alloc::Global;
 use std::str::Split;
 
 /// The most bytes that a script may ask for as its memory.
 pub const MOST_MEMORY: usize = 1_048_576;
 
-/// A record with a list of its own.
-#[derive(Drop)]
-pub struct Entry {
-    pub form: u8,
-    pub mode: u8,
-    pub submode: u8,
-    pub numbers: Vec<i32>,
-}
-
-impl Entry {
-    pub fn record(&self) -> Record<'_>
-        ensures { asked result ≡ entered self.now }
-    {
-        Record {
-            form: self.form,
-            mode: self.mode,
-            submode: self.submode,
-            numbers: &self.numbers,
-        }
-    }
-}
-
+/// What a line of a script says.
 #[derive(Drop)]
 pub enum Command {
     /// How many bytes the memory shall have.
     Memory(usize),
-    /// A closing form, and the form and the list of the identification.
-    Start(u8, u8, Vec<i32>),
+    Start(Opening),
     /// The bytes of a closed product.
     Receive(Vec<u8>),
-    Add(Entry),
-    /// A block, and what shall stand in its place.
-    Replace(usize, Entry),
-    Withdraw(usize),
-    Close,
-    Reopen,
+    /// A call on the product that there is.
+    Step(Step),
 }
 
 fn first_word(line: &str) -> &str
     ensures { Begins result.now line.now }
 {
+    // A match: of a closure in `map_or` the proof did not close.
     match line.split_once(' ') {
         Some((word, _)) => word,
         None => line,
@@ -83,20 +59,21 @@ fn read_memory(mut words: Split<'_, char>) -> Result<Command, ScriptFault>
 }
 
 fn read_numbers(heap: Global, words: Split<'_, char>) -> Result<Vec<i32>, ScriptFault> {
-    let mut numbers = Vec::new(heap);
-    for word in words {
-        numbers.push(read_number(word)?)?;
-    }
-    Ok(numbers)
+    words.map(read_number).try_collect(heap)
 }
 
 fn read_start(heap: Global, mut words: Split<'_, char>) -> Result<Command, ScriptFault>
     ensures bounds { IfOk result InBounds }
     ensures word { IfOk result (λ c. word_of c ≡ codes "start") }
 {
-    let close = read_capped(next_word(&mut words)?, 10)?;
+    let closing = read_capped(next_word(&mut words)?, 10)?;
     let form = read_capped(next_word(&mut words)?, 10)?;
-    Ok(Command::Start(close, form, read_numbers(heap, words)?))
+    let numbers = read_numbers(heap, words)?;
+    Ok(Command::Start(Opening {
+        closing,
+        form,
+        numbers,
+    }))
 }
 
 fn read_receive(heap: Global, mut words: Split<'_, char>) -> Result<Command, ScriptFault>
@@ -104,7 +81,7 @@ fn read_receive(heap: Global, mut words: Split<'_, char>) -> Result<Command, Scr
     ensures word { IfOk result (λ c. word_of c ≡ codes "receive") }
 {
     let bytes = match words.next() {
-        Some(hex) => read_hex(heap, hex)?,
+        Some(digits) => read_hex(heap, digits)?,
         None => Vec::new(heap),
     };
     no_more(words)?;
@@ -124,29 +101,41 @@ fn read_entry(heap: Global, mut words: Split<'_, char>) -> Result<Entry, ScriptF
     })
 }
 
-fn read_replace(heap: Global, mut words: Split<'_, char>) -> Result<Command, ScriptFault>
-    ensures bounds { IfOk result InBounds }
-    ensures word { IfOk result (λ c. word_of c ≡ codes "replace") }
+fn read_replace(heap: Global, mut words: Split<'_, char>) -> Result<Step, ScriptFault>
+    ensures { IfOk result (λ s. step_word s ≡ codes "replace") }
 {
     let block = read_natural(next_word(&mut words)?, 10)?;
-    Ok(Command::Replace(block, read_entry(heap, words)?))
+    let entry = read_entry(heap, words)?;
+    Ok(Step::Replace { block, entry })
 }
 
-fn read_withdraw(mut words: Split<'_, char>) -> Result<Command, ScriptFault>
-    ensures bounds { IfOk result InBounds }
-    ensures word { IfOk result (λ c. word_of c ≡ codes "withdraw") }
+fn read_withdraw(mut words: Split<'_, char>) -> Result<Step, ScriptFault>
+    ensures { IfOk result (λ s. step_word s ≡ codes "withdraw") }
 {
     let block = read_natural(next_word(&mut words)?, 10)?;
     no_more(words)?;
-    Ok(Command::Withdraw(block))
+    Ok(Step::Withdraw { block })
 }
 
-/// A command that is one word.
-fn read_bare(words: Split<'_, char>, command: Command) -> Result<Command, ScriptFault>
-    ensures { IfOk result (λ c. c ≡ command) }
+/// A step that is one word.
+fn read_bare(words: Split<'_, char>, step: Step) -> Result<Step, ScriptFault>
+    ensures { IfOk result (λ s. s ≡ step) }
 {
     no_more(words)?;
-    Ok(command)
+    Ok(step)
+}
+
+fn read_step(heap: Global, word: &str, words: Split<'_, char>) -> Result<Step, ScriptFault>
+    ensures { IfOk result (λ s. step_word s ≡ word.now) }
+{
+    match word {
+        "add" => Ok(Step::Add(read_entry(heap, words)?)),
+        "replace" => read_replace(heap, words),
+        "withdraw" => read_withdraw(words),
+        "close" => read_bare(words, Step::Close),
+        "reopen" => read_bare(words, Step::Reopen),
+        _ => Err(ScriptFault::Unreadable),
+    }
 }
 
 impl Command {
@@ -161,12 +150,7 @@ impl Command {
             "memory" => read_memory(words),
             "start" => read_start(heap, words),
             "receive" => read_receive(heap, words),
-            "add" => Ok(Command::Add(read_entry(heap, words)?)),
-            "replace" => read_replace(heap, words),
-            "withdraw" => read_withdraw(words),
-            "close" => read_bare(words, Command::Close),
-            "reopen" => read_bare(words, Command::Reopen),
-            _ => Err(ScriptFault::Unreadable),
+            word => read_step(heap, word, words).map(Command::Step),
         }
     }
 
@@ -176,13 +160,14 @@ impl Command {
     {
         match self {
             Command::Memory(_) => "memory",
-            Command::Start(_, _, _) => "start",
+            Command::Start(_) => "start",
             Command::Receive(_) => "receive",
-            Command::Add(_) => "add",
-            Command::Replace(_, _) => "replace",
-            Command::Withdraw(_) => "withdraw",
-            Command::Close => "close",
-            Command::Reopen => "reopen",
+            Command::Step(Step::Add(_)) => "add",
+            Command::Step(Step::Replace { .. }) => "replace",
+            Command::Step(Step::Withdraw { .. }) => "withdraw",
+            Command::Step(Step::Close) => "close",
+            Command::Step(Step::Reopen) => "reopen",
+            Command::Step(Step::Send) => "send",
         }
     }
 }
