@@ -31,9 +31,8 @@ fn play_line(
 fn main(rt: HostRuntime) -> anyhow::Result<()> {
     let heap = rt.alloc();
     let mut player = Player::new(heap)?;
-    let mut number = 0usize;
-    for line in BufReader::new(heap, rt.stdin())?.lines(heap) {
-        number = number.saturating_add(1);
+    let lines = BufReader::new(heap, rt.stdin())?.lines(heap);
+    for (number, line) in (1..).zip(lines) {
         play_line(&rt, &mut player, number, line)?;
     }
     player.print_end(&mut rt.stdout())

@@ -1,67 +1,58 @@
 // What a command is answered, and the line that says so.
-use anyhow::anyhow;
-use judging::faults::{ReceiptFault, Refusal};
-use lines::refusals::write_refusal;
+ghost use Rattle.scripts.specs.Playing.{unbegun};
+ghost use Rattle.std.specs.Prelude.{◌≡◌};
+
+use judging::faults::ReceiptFault;
+use lines::refusals::{offset_told, rule_told};
+use printing::print_refusal;
+use replay::beginning::NotBegun;
+use replay::steps::Told;
+use std::io;
 use std::io::Write;
 
-/// More than any line has.
-pub(crate) const LINE_BYTES: usize = 256;
-
 #[derive(Clone, Copy)]
-pub enum Answer {
+pub(crate) enum Answer {
     /// The memory has so many bytes now.
     Sized(usize),
-    /// The bytes and the blocks of the product after the call.
-    Accepted(usize, usize),
-    Refused(Refusal),
+    /// What came of a start, of a receipt or of a call.
+    Told(Told),
     NotReceived(ReceiptFault),
-    /// The product, or that there is none, leaves no place for such a call.
-    NotAllowed,
 }
 
-/// Prints as much of the line as was told.
-pub(crate) fn print_line(
-    output: &mut impl Write,
-    line: &[u8],
-    told: Result<usize, Refusal>,
-) -> anyhow::Result<()> {
-    match told {
-        Ok(length) if length <= line.len() => Ok(output.write_all(&line[0..length])?),
-        _ => Err(anyhow!("a line has no room")),
+impl From<NotBegun> for Answer {
+    ghost from_gives = { λ why answer. answer ≡ unbegun why };
+
+    fn from(why: NotBegun) -> Answer {
+        match why {
+            NotBegun::Start(refusal) => Answer::Told(Told::Refused(refusal)),
+            NotBegun::Receipt(fault) => Answer::NotReceived(fault),
+        }
     }
 }
 
-fn print_refusal(output: &mut impl Write, word: &str, refusal: Refusal) -> anyhow::Result<()> {
-    let number = refusal.number();
-    let (rule, offset) = match refusal.field() {
-        Some(field) => (field.rule.number(), field.place),
-        None => (0, 0),
-    };
-    writeln!(
-        output,
-        "{word} refused={number} rule={rule} offset={offset}"
-    )?;
-    Ok(())
-}
-
-fn print_fault(output: &mut impl Write, word: &str, fault: ReceiptFault) -> anyhow::Result<()> {
-    write!(output, "{word} ")?;
-    let mut line = [0u8; LINE_BYTES];
-    let told = write_refusal(fault, &mut line);
-    print_line(output, &line, told)
+fn print_told(output: &mut impl Write, told: Told) -> io::Result<()> {
+    match told {
+        Told::NotAllowed => writeln!(output, "not-allowed"),
+        Told::Refused(refusal) => {
+            let number = refusal.number();
+            let field = refusal.field();
+            let rule = rule_told(field);
+            let offset = offset_told(field);
+            writeln!(output, "refused={number} rule={rule} offset={offset}")
+        }
+        Told::Made { bytes, blocks } => writeln!(output, "bytes={bytes} blocks={blocks}"),
+        Told::Sent { pairs } => writeln!(output, "pairs={pairs}"),
+    }
 }
 
 impl Answer {
     /// Prints the one line that answers a command, which its word begins.
     pub(crate) fn print(self, output: &mut impl Write, word: &str) -> anyhow::Result<()> {
+        write!(output, "{word} ")?;
         match self {
-            Answer::Sized(size) => writeln!(output, "{word} {size}")?,
-            Answer::Accepted(bytes, blocks) => {
-                writeln!(output, "{word} bytes={bytes} blocks={blocks}")?
-            }
-            Answer::Refused(refusal) => print_refusal(output, word, refusal)?,
-            Answer::NotReceived(fault) => print_fault(output, word, fault)?,
-            Answer::NotAllowed => writeln!(output, "{word} not-allowed")?,
+            Answer::Sized(size) => writeln!(output, "{size}")?,
+            Answer::Told(told) => print_told(output, told)?,
+            Answer::NotReceived(fault) => print_refusal(output, fault)?,
         }
         Ok(())
     }

@@ -3,5 +3,4 @@
 
 mod answers;
 pub mod player;
-mod stages;
 mod turns;

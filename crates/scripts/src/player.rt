@@ -2,17 +2,16 @@
 ghost use Rattle.scripts.specs.Playing.{turn, turn_by, answer_by, of_stages};
 ghost use Rattle.std.specs.Prelude.{◌≡◌, false, replicate, IfOk, None, MatchResult, OnOk};
 
-use crate::answers::{Answer, LINE_BYTES, print_line};
-use crate::stages::Stage;
+use crate::answers::Answer;
 use crate::turns::take_turn;
 use anyhow::anyhow;
-use books::book::Book;
 use commands::command::Command;
 use commands::faults::ScriptFault;
 use four_kinds::FourKinds;
-use lines::listing::write_line;
-use products::closed::Closed;
+use printing::print_listing;
 use products::receipt::MOST_BYTES;
+use products::tally::Tally;
+use replay::steps::State;
 use std::alloc::{AllocError, Global};
 use std::io::Write;
 
@@ -20,7 +19,7 @@ use std::io::Write;
 #[derive(Drop)]
 pub struct Player {
     memory: Vec<u8>,
-    stage: Option<Stage>,
+    stage: Option<State>,
 }
 
 fn zeros(heap: Global, size: usize) -> Result<Vec<u8>, AllocError>
@@ -41,20 +40,20 @@ impl Player {
         })
     }
 
-    fn take_turn(&mut self, command: &Command) -> Answer
-        ensures { turn result self.new.memory.items (of_stages self.new.stage) ≡ turn_by self.old.memory.items (of_stages self.old.stage) command.now }
+    fn take_turn(&mut self, command: Command) -> Answer
+        ensures { turn result self.new.memory.items (of_stages self.new.stage) ≡ turn_by self.old.memory.items (of_stages self.old.stage) command }
     {
         take_turn(&mut self.memory, &mut self.stage, command)
     }
 
     /// Does what a command says, as far as it is allowed, and answers it. Without memory for `memory` all stays as it was.
-    fn answer(&mut self, heap: Global, command: &Command) -> Result<Answer, AllocError>
-        ensures { MatchResult result (λ a. turn a self.new.memory.items (of_stages self.new.stage) ≡ answer_by self.old.memory.items (of_stages self.old.stage) command.now) (λ _. self.new ≡ self.old) }
+    fn answer(&mut self, heap: Global, command: Command) -> Result<Answer, AllocError>
+        ensures { MatchResult result (λ a. turn a self.new.memory.items (of_stages self.new.stage) ≡ answer_by self.old.memory.items (of_stages self.old.stage) command) (λ _. self.new ≡ self.old) }
     {
         match command {
             Command::Memory(size) if self.stage.is_none() => {
-                self.memory = zeros(heap, *size)?;
-                Ok(Answer::Sized(*size))
+                self.memory = zeros(heap, size)?;
+                Ok(Answer::Sized(size))
             }
             _ => Ok(self.take_turn(command)),
         }
@@ -64,14 +63,15 @@ impl Player {
     fn obey(
         &mut self,
         heap: Global,
-        command: &Command,
+        command: Command,
         output: &mut impl Write,
     ) -> anyhow::Result<()>
-        ensures memory { OnOk result (self.new.memory.items ≡ (answer_by self.old.memory.items (of_stages self.old.stage) command.now).memory) }
-        ensures product { OnOk result (of_stages self.new.stage ≡ (answer_by self.old.memory.items (of_stages self.old.stage) command.now).product) }
+        ensures memory { OnOk result (self.new.memory.items ≡ (answer_by self.old.memory.items (of_stages self.old.stage) command).memory) }
+        ensures product { OnOk result (of_stages self.new.stage ≡ (answer_by self.old.memory.items (of_stages self.old.stage) command).product) }
     {
+        let word = command.word();
         let answer = self.answer(heap, command)?;
-        answer.print(output, command.word())
+        answer.print(output, word)
     }
 
     /// Plays a line of a script, or prints that it is unreadable. Tells whether it was a command.
@@ -86,7 +86,7 @@ impl Player {
     {
         match Command::read(heap, line) {
             Ok(command) => {
-                self.obey(heap, &command, output)?;
+                self.obey(heap, command, output)?;
                 Ok(true)
             }
             Err(ScriptFault::Unreadable) => {
@@ -97,32 +97,25 @@ impl Player {
         }
     }
 
-    fn print_listing(&self, output: &mut impl Write, product: &Closed) -> anyhow::Result<()> {
-        for number in 0..=product.tally().blocks {
-            let mut line = [0u8; LINE_BYTES];
-            let told = write_line(product, &self.memory, &FourKinds, number, &mut line);
-            print_line(output, &line, told)?;
-        }
-        Ok(())
-    }
-
     /// Prints what is there at the end of a script.
     pub fn print_end(&self, output: &mut impl Write) -> anyhow::Result<()> {
         match &self.stage {
             None => writeln!(output, "end none")?,
-            Some(Stage::Open(product)) => {
-                let tally = product.tally();
-                let bytes = tally.bytes;
-                let blocks = tally.blocks;
-                let close = tally.close.number();
+            Some(State::Opened(product)) => {
+                let Tally {
+                    bytes,
+                    blocks,
+                    close,
+                } = product.tally();
+                let close = close.number();
                 writeln!(
                     output,
                     "end open bytes={bytes} blocks={blocks} close={close}"
                 )?;
             }
-            Some(Stage::Closed(product)) => {
+            Some(State::Shut(product)) => {
                 writeln!(output, "end closed")?;
-                self.print_listing(output, product)?;
+                print_listing(output, product, &self.memory, &FourKinds)?;
             }
         }
         Ok(())
