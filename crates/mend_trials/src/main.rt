@@ -68,10 +68,8 @@ fn expand(heap: Global, short: &str) -> anyhow::Result<String> {
     let mut words = short.split(' ');
     let mut line = String::from_str(heap, words.next().unwrap_or(""))?;
     for word in words {
-        match word.split_once('*') {
-            Some((times, one)) => push_words(&mut line, times, one)?,
-            None => push_words(&mut line, "1", word)?,
-        }
+        let (times, one) = word.split_once('*').unwrap_or(("1", word));
+        push_words(&mut line, times, one)?;
     }
     Ok(line)
 }

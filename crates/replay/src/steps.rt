@@ -35,13 +35,8 @@ impl State {
 pub enum Step {
     Add(Entry),
     /// A block, and what shall stand in its place.
-    Replace {
-        block: usize,
-        entry: Entry,
-    },
-    Withdraw {
-        block: usize,
-    },
+    Replace { block: usize, entry: Entry },
+    Withdraw { block: usize },
     Close,
     Reopen,
     Send,

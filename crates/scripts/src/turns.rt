@@ -11,11 +11,7 @@ use replay::steps::{State, Step, Told};
 use sinks::bytes::ByteSink;
 
 /// Starts or receives a product where there is none.
-fn begin_product(
-    memory: &mut [u8],
-    stage: &mut Option<State>,
-    beginning: &Beginning,
-) -> Answer
+fn begin_product(memory: &mut [u8], stage: &mut Option<State>, beginning: &Beginning) -> Answer
     ensures { turn result memory.new (of_stages stage.new) ≡ begun_by memory.old (of_stages stage.old) beginning.now }
 {
     if stage.is_some() {
