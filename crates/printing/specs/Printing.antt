@@ -1,5 +1,5 @@
 -- What a writer holds after lines were printed to it, where that is known.
-use Rattle.std.specs.Prelude.{ℕ, zero, suc, List, ◌++◌, take, Ok, Err, Option, Result}
+use Rattle.std.specs.Prelude.{ℕ, zero, suc, List, take, Ok, Err, Option, Result}
 use Rattle.std.specs.Io.KnownBytes.{Keeps, Appends}
 use Rattle.judging.specs.declared.faults.Refusal.{Refusal}
 use Rattle.text.specs.declared.lines.Line.{Line}

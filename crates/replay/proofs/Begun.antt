@@ -1,5 +1,5 @@
 -- From the first call of a life to the life.
-use Rattle.std.proofs.Common.{◌≡◌, ℕ, false, not, List, ℤ, is_some, Ok, Err, vec_items, Result, sym, refl, ap, ◌∙◌, arith}
+use Rattle.std.proofs.Common.{◌≡◌, ℕ, false, not, List, ℤ, is_some, Ok, Err, vec_items, Result, sym, refl, ap, ◌∙◌}
 use Rattle.std.specs.List.{AllByRecursion}
 use Rattle.wire.specs.Pairs.{Bytes}
 use Rattle.wire.specs.Forms.{form_of}
@@ -51,14 +51,14 @@ module _ {S : Type 0} (taken : S → List ℕ) (room : S → ℕ) (M : Meaning) 
       let is : state ≡ OpenState (as_open x.product) = same_ok e in
       let product : x.product ≡ product_in (OpenState (as_open x.product)) = (λ i. record { phase = phase i; bytes = x.product.bytes; blocks = x.product.blocks; close = x.product.close }) in
       record { world = _; life = life; product_is = product ∙ ap product_in (sym is); memory_is = refl; sink_is = refl; law = one_life taken room M L s _ life }
-  lived_start closing form list known (Err r) h state e = absurd (let z : ◌≡◌ {A = ℕ} 0 1 = cc in omega arith)
+  lived_start closing form list known (Err r) h state e = absurd (cc)
 
   lived_receive : (n : ℕ) → Bytes mem → (w : Result Received ReceiptFault) → receipt M mem n ≡ w → (state : State) → Ok state ≡ state_received (closed_as n 0 w)
       → Lived taken room M s (product_in state) mem s
   lived_receive n known (Ok x) h state e =
       let life = begins (receives mem n x _ known h (ap (λ u. closed_as n 0 u) h)) in
       record { world = _; life = life; product_is = ap product_in (sym (same_ok e)); memory_is = refl; sink_is = refl; law = one_life taken room M L s _ life }
-  lived_receive n known (Err r) h state e = absurd (let z : ◌≡◌ {A = ℕ} 0 1 = cc in omega arith)
+  lived_receive n known (Err r) h state e = absurd (cc)
 
   pub begun_lived : (b : Beginning) (state : State) → TypedBeginning mem b → Ok state ≡ begun M mem b → Lived taken room M s (product_in state) (memory_begun M mem b) s
   begun_lived (Start o) state known e = lived_start o.closing o.form (vec_items o.numbers) known _ refl state e

@@ -1,7 +1,6 @@
 -- One step more of a run.
-use Rattle.std.proofs.Common.{◌≡◌, ℕ, ◌+◌, ◌-◌, ◌<◌, ◌≤◌, drop, min, Bool, true, false, cond, List, [], ◌∷◌, ◌++◌, length, get_or, set, take, Ok, Err, vec_items, Result, sym, refl, ap, ◌∙◌, subst, ap₂, inl, inr, arith}
-use Rattle.std.proofs.lemmas.List.{append-nil, append_assoc, length-append, length-drop, length-take-le, take_more, take_more_set, take_all, take-append-drop, drop-set-lt, drop-drop}
-use Rattle.std.proofs.lemmas.Bool.{cases_lt}
+use Rattle.std.proofs.Common.{◌≡◌, ℕ, ◌+◌, ◌-◌, ◌<◌, ◌≤◌, drop, min, Bool, true, false, cond, List, [], ◌∷◌, ◌++◌, length, get_or, set, take, Ok, Err, Result, sym, refl, ap, ◌∙◌, subst, ap₂, arith}
+use Rattle.std.proofs.lemmas.List.{append-nil, append_assoc, length-append, length-drop, length-take-le, take_min, take_more, take_more_set, take-append-drop, drop-set-lt, drop-drop}
 use Rattle.std.proofs.Math.Seq.{drop-cons}
 use Rattle.books.specs.Books.{Meaning, Lawful}
 use Rattle.judging.specs.declared.faults.Refusal.{Refusal}
@@ -182,14 +181,6 @@ next_more xs i x rest h =
     let here : get_or xs i x ≡ x = cc in
     take_more xs i x place ∙ ap (λ y. take i xs ++ (y ∷ [])) here
 
--- as many as there are, or as many as are asked for
-take_fewer : {X : Type 0} (xs : List X) (n i : ℕ) → i ≡ min (length xs) n → take i xs ≡ take n xs
-take_fewer xs n i e =
-    elim (cases_lt n (length xs)) [
-      | inl h ↦ ap (λ k. take k xs) (omega arith)
-      | inr h ↦ take_all i xs (omega arith) ∙ sym (take_all n xs h)
-    ]
-
 module _ {S : Type 0} (taken : S → List ℕ) (room : S → ℕ) (wrote : S → List ℕ → S → Type 0) (M : Meaning) (s : S) (p : Product) (mem : List ℕ) (steps : List Step) (places : List Told) where
   -- all that the first i steps make
   abbrev pub so_far : ℕ → Run
@@ -246,9 +237,9 @@ module _ {S : Type 0} (taken : S → List ℕ) (room : S → ℕ) (wrote : S →
     pub memory_is : after ≡ (run_told M (room s) p mem steps places).memory
     pub took : Took taken room wrote s (run_told M (room s) p mem steps places).put t
 
-  pub all_done : (i : ℕ) (rest : List Step) (told : List Told) (q : Product) (after : List ℕ) (t : S) → SoFar i rest told q after t → length told ≡ length places → i ≡ min (length steps) (length places) → AllDone told q after t
+  pub all_done : (i : ℕ) (rest : List Step) (told : List Told) (q : Product) (after : List ℕ) (t : S) → SoFar i rest told q after t → length told ≡ length places → i ≡ min (length places) (length steps) → AllDone told q after t
   all_done i rest told q after t l long end =
-      let all : so_far i ≡ run_told M (room s) p mem steps places = ap (run M (room s) p mem) (take_fewer steps (length places) i end) in
+      let all : so_far i ≡ run_told M (room s) p mem steps places = ap so_far end ∙ ap (run M (room s) p mem) (take_min (length places) steps) in
       let first : length (take i told) ≡ i = length-take-le i told (omega (arith, long)) in
       let told_is : told ≡ places_after (so_far i) places = sym (take-append-drop i told) ∙ ap₂ ◌++◌ l.told_is l.untold ∙ ap (λ n. (so_far i).told ++ drop n places) (sym first ∙ ap length l.told_is) in
       record {

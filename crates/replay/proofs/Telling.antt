@@ -3,7 +3,6 @@ use Rattle.std.proofs.Common.{◌≡◌, ℕ, List, [], take, Ok, Err, Result, s
 use Rattle.wire.proofs.Passing.{went_on, same_ok}
 use Rattle.books.specs.Books.{Meaning}
 use Rattle.judging.specs.declared.faults.Refusal.{Refusal}
-use Rattle.judging.specs.declared.places.Phase.{Phase}
 use Rattle.judging.specs.declared.places.Phase.TheVariants.{Opened, Shut}
 use Rattle.products.specs.declared.opened.Open.{Open}
 use Rattle.products.specs.declared.closed.Closed.{Closed}

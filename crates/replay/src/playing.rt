@@ -65,6 +65,7 @@ fn close_step<B: Book>(product: Open, memory: &mut [u8], book: &B) -> (State, To
     }
 }
 
+// Beside `close_step`: a generic function of both would say more of types than these four lines say of the calls.
 fn reopen_step<B: Book>(product: Closed, memory: &mut [u8], book: &B) -> (State, Told)
     ensures { ◌≡◌ {A = Scene} (record { told = result.1; product = product_in result.0; memory = memory.new; put = [] }) (calls (B.meaning book.now) (of_closed product) memory.old reopens) }
 {

@@ -27,6 +27,7 @@ fn play_all<B: Book, S: Sink>(
 {
     let mut state = start;
     let _ = sink.space();
+    // Not a zip: nothing is known of places that were written through an adapter of their iterator.
     let mut rest = steps.iter();
     for place in told.iter_mut() {
         let Some(step) = rest.next() else {

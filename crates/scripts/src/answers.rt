@@ -30,6 +30,7 @@ impl From<NotBegun> for Answer {
     }
 }
 
+// A function: `Display` for `Told` would have to stand in its own crate, which knows nothing of these lines.
 fn print_told(output: &mut impl Write, told: Told) -> io::Result<()> {
     match told {
         Told::NotAllowed => writeln!(output, "not-allowed"),

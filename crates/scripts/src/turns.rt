@@ -46,7 +46,7 @@ fn receive(memory: &mut [u8], stage: &mut Option<State>, bytes: &[u8]) -> Answer
     begin_product(memory, stage, &Beginning::Receive { count })
 }
 
-/// Puts a call to the product that there is. A script has no sink yet, and this one takes nothing.
+/// Puts a call to the product that there is. A script has no sink, and this one takes nothing.
 fn make_step(memory: &mut [u8], stage: &mut Option<State>, step: &Step) -> Answer
     ensures { turn result memory.new (of_stages stage.new) ≡ called memory.old (of_stages stage.old) step.now }
 {
