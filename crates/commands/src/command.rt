@@ -3,7 +3,7 @@ ghost use Rattle.commands.specs.Commands.{InBounds, Begins, step_word, word_of};
 ghost use Rattle.std.specs.Prelude.{◌≡◌, IfOk, codes};
 
 use crate::faults::ScriptFault;
-use crate::words::{read_byte, read_capped, read_hex, read_natural, read_number};
+use crate::words::{Base, read_byte, read_capped, read_hex, read_natural, read_number};
 use replay::beginning::Opening;
 use replay::entries::Entry;
 use replay::steps::Step;
@@ -50,7 +50,7 @@ fn read_memory(mut words: Split<'_, char>) -> Result<Command, ScriptFault>
     ensures bounds { IfOk result InBounds }
     ensures word { IfOk result (λ c. word_of c ≡ codes "memory") }
 {
-    let size = read_natural(next_word(&mut words)?, 10)?;
+    let size = read_natural(next_word(&mut words)?, Base::Decimal)?;
     no_more(words)?;
     if size > MOST_MEMORY {
         return Err(ScriptFault::Unreadable);
@@ -66,8 +66,8 @@ fn read_start(heap: Global, mut words: Split<'_, char>) -> Result<Command, Scrip
     ensures bounds { IfOk result InBounds }
     ensures word { IfOk result (λ c. word_of c ≡ codes "start") }
 {
-    let closing = read_capped(next_word(&mut words)?, 10)?;
-    let form = read_capped(next_word(&mut words)?, 10)?;
+    let closing = read_capped(next_word(&mut words)?, Base::Decimal)?;
+    let form = read_capped(next_word(&mut words)?, Base::Decimal)?;
     let numbers = read_numbers(heap, words)?;
     Ok(Command::Start(Opening {
         closing,
@@ -89,9 +89,9 @@ fn read_receive(heap: Global, mut words: Split<'_, char>) -> Result<Command, Scr
 }
 
 fn read_entry(heap: Global, mut words: Split<'_, char>) -> Result<Entry, ScriptFault> {
-    let form = read_capped(next_word(&mut words)?, 10)?;
-    let mode = read_capped(next_word(&mut words)?, 8)?;
-    let submode = read_byte(next_word(&mut words)?, 8)?;
+    let form = read_capped(next_word(&mut words)?, Base::Decimal)?;
+    let mode = read_capped(next_word(&mut words)?, Base::Octal)?;
+    let submode = read_byte(next_word(&mut words)?, Base::Octal)?;
     let numbers = read_numbers(heap, words)?;
     Ok(Entry {
         form,
@@ -104,7 +104,7 @@ fn read_entry(heap: Global, mut words: Split<'_, char>) -> Result<Entry, ScriptF
 fn read_replace(heap: Global, mut words: Split<'_, char>) -> Result<Step, ScriptFault>
     ensures { IfOk result (λ s. step_word s ≡ codes "replace") }
 {
-    let block = read_natural(next_word(&mut words)?, 10)?;
+    let block = read_natural(next_word(&mut words)?, Base::Decimal)?;
     let entry = read_entry(heap, words)?;
     Ok(Step::Replace { block, entry })
 }
@@ -112,7 +112,7 @@ fn read_replace(heap: Global, mut words: Split<'_, char>) -> Result<Step, Script
 fn read_withdraw(mut words: Split<'_, char>) -> Result<Step, ScriptFault>
     ensures { IfOk result (λ s. step_word s ≡ codes "withdraw") }
 {
-    let block = read_natural(next_word(&mut words)?, 10)?;
+    let block = read_natural(next_word(&mut words)?, Base::Decimal)?;
     no_more(words)?;
     Ok(Step::Withdraw { block })
 }

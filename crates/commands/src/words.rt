@@ -5,38 +5,49 @@ use crate::faults::ScriptFault;
 use hex::FromHexError;
 use std::alloc::Global;
 
+/// What the digits of a number count.
+#[derive(Clone, Copy)]
+pub(crate) enum Base {
+    Octal,
+    Decimal,
+}
+
+impl Base {
+    fn radix(self) -> u32
+        ensures low { 2 ≤ result }
+        ensures high { result ≤ 36 }
+    {
+        match self {
+            Base::Octal => 8,
+            Base::Decimal => 10,
+        }
+    }
+}
+
 /// A number without a sign. One that is too large counts as the largest.
-pub(crate) fn read_natural(word: &str, base: u32) -> Result<usize, ScriptFault>
-    requires low { 2 ≤ base }
-    requires high { base ≤ 36 }
-{
+pub(crate) fn read_natural(word: &str, base: Base) -> Result<usize, ScriptFault> {
     if word.is_empty() {
         return Err(ScriptFault::Unreadable);
     }
+    let radix = base.radix();
     let mut value = 0usize;
     for letter in word.chars() {
-        let digit = letter.to_digit(base).ok_or(ScriptFault::Unreadable)?;
+        let digit = letter.to_digit(radix).ok_or(ScriptFault::Unreadable)?;
         value = value
-            .saturating_mul(base as usize)
+            .saturating_mul(radix as usize)
             .saturating_add(digit as usize);
     }
     Ok(value)
 }
 
 /// A byte. A number that is too large counts as 255.
-pub(crate) fn read_capped(word: &str, base: u32) -> Result<u8, ScriptFault>
-    requires low { 2 ≤ base }
-    requires high { base ≤ 36 }
-{
+pub(crate) fn read_capped(word: &str, base: Base) -> Result<u8, ScriptFault> {
     let value = read_natural(word, base)?;
     Ok(u8::try_from(value).unwrap_or(u8::MAX))
 }
 
 /// A byte, and no larger number.
-pub(crate) fn read_byte(word: &str, base: u32) -> Result<u8, ScriptFault>
-    requires low { 2 ≤ base }
-    requires high { base ≤ 36 }
-{
+pub(crate) fn read_byte(word: &str, base: Base) -> Result<u8, ScriptFault> {
     let value = read_natural(word, base)?;
     u8::try_from(value).map_err(|_| ScriptFault::Unreadable)
 }
@@ -46,7 +57,7 @@ pub(crate) fn read_number(word: &str) -> Result<i32, ScriptFault> {
     let (sign, digits) = word
         .strip_prefix('-')
         .map_or((1, word), |digits| (-1, digits));
-    let size = i64::try_from(read_natural(digits, 10)?).unwrap_or(i64::MAX);
+    let size = i64::try_from(read_natural(digits, Base::Decimal)?).unwrap_or(i64::MAX);
     i32::try_from(size.saturating_mul(sign)).map_err(|_| ScriptFault::Unreadable)
 }
 

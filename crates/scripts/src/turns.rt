@@ -38,10 +38,9 @@ fn lay(memory: &mut [u8], bytes: &[u8])
 fn receive(memory: &mut [u8], stage: &mut Option<State>, bytes: &[u8]) -> Answer
     ensures { turn result memory.new (of_stages stage.new) ≡ received_by memory.old (of_stages stage.old) bytes.now }
 {
-    if stage.is_some() {
-        return Answer::Told(Told::NotAllowed);
+    if stage.is_none() {
+        lay(memory, bytes);
     }
-    lay(memory, bytes);
     let count = bytes.len();
     begin_product(memory, stage, &Beginning::Receive { count })
 }
