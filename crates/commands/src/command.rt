@@ -9,6 +9,7 @@ use replay::entries::Entry;
 use replay::steps::Step;
 use std::alloc::Global;
 use std::str::Split;
+use wire::modes::Modes;
 
 /// The most bytes that a script may ask for as its memory.
 pub const MOST_MEMORY: usize = 1_048_576;
@@ -95,8 +96,7 @@ fn read_entry(heap: Global, mut words: Split<'_, char>) -> Result<Entry, ScriptF
     let numbers = read_numbers(heap, words)?;
     Ok(Entry {
         form,
-        mode,
-        submode,
+        modes: Modes { mode, submode },
         numbers,
     })
 }

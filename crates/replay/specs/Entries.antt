@@ -9,7 +9,7 @@ use Rattle.replay.specs.declared.entries.Entry.{Entry}
 
 -- what an entry gives to a call
 abbrev pub entered : Entry → Given
-entered e = gives e.form e.mode e.submode (vec_items e.numbers)
+entered e = gives e.form e.modes.mode e.modes.submode (vec_items e.numbers)
 
 -- a record that an entry gives, whose numbers are of 32 bits as the type of its list has it
 pub record IsGivenBy (e : Entry) (r : Record) : Type 0 where

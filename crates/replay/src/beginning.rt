@@ -8,7 +8,6 @@ use books::known::numbers_known;
 use judging::faults::{ReceiptFault, Refusal};
 use products::closed::Closed;
 use products::opened::Open;
-use wire::pairs::bytes_known;
 
 /// What a product is started with: its closing form, and the form and the list of its identification.
 #[derive(Drop)]
@@ -47,7 +46,6 @@ pub fn begin<B: Book>(beginning: &Beginning, memory: &mut [u8], book: &B) -> Res
                 .map_err(NotBegun::Start)
         }
         Beginning::Receive { count } => {
-            bytes_known(memory);
             Closed::receive(memory, *count, book)
                 .map(State::Shut)
                 .map_err(NotBegun::Receipt)

@@ -3,13 +3,13 @@ ghost use Rattle.replay.specs.Entries.{IsGivenBy};
 
 use books::known::numbers_known;
 use records::drafts::Record;
+use wire::modes::Modes;
 
 /// A record with a list of its own.
 #[derive(Drop)]
 pub struct Entry {
     pub form: u8,
-    pub mode: u8,
-    pub submode: u8,
+    pub modes: Modes,
     pub numbers: Vec<i32>,
 }
 
@@ -20,8 +20,7 @@ impl<'a> From<&'a Entry> for Record<'a> {
         numbers_known(&entry.numbers);
         Record {
             form: entry.form,
-            mode: entry.mode,
-            submode: entry.submode,
+            modes: entry.modes,
             numbers: &entry.numbers,
         }
     }

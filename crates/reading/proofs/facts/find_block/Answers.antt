@@ -1,6 +1,5 @@
-use Rattle.std.proofs.Common.{length, ap, arith, rules}
+use Rattle.std.proofs.Common.{length, ap, arith}
 use Rattle.wire.proofs.Skipping.{behind_length}
-use Rattle.reading.specs.Finding.{found_block}
 use Rattle.reading.proofs.facts.find_block.Goals as goal
 
 pub overflow_sub-at : goal.overflow_sub-at
