@@ -14,6 +14,7 @@ use texts::characters::Characters;
 use texts::message::Message;
 use texts::routing::Routing;
 use winds::kind::Winds;
+use wire::modes::Modes;
 
 /// Texts (5/20 and 5/4), labels (5/1) and winds (5/3) by their kinds, every other block as plain words.
 #[derive(Clone, Copy)]
@@ -43,25 +44,19 @@ impl Book for FourKinds {
 
     ghost lawful = { λ _. four_lawful };
 
-    fn judge(&self, mode: u8, submode: u8, field: &[u8]) -> Result<usize, FieldFault> {
-        STACK.judge(mode, submode, field)
+    fn judge(&self, modes: Modes, field: &[u8]) -> Result<usize, FieldFault> {
+        STACK.judge(modes, field)
     }
 
-    fn number(&self, mode: u8, submode: u8, field: &[u8], index: usize) -> Option<i32> {
-        STACK.number(mode, submode, field, index)
+    fn number(&self, modes: Modes, field: &[u8], index: usize) -> Option<i32> {
+        STACK.number(modes, field, index)
     }
 
-    fn weigh(&self, mode: u8, submode: u8, list: &[i32]) -> Result<usize, FieldFault> {
-        STACK.weigh(mode, submode, list)
+    fn weigh(&self, modes: Modes, list: &[i32]) -> Result<usize, FieldFault> {
+        STACK.weigh(modes, list)
     }
 
-    fn write(
-        &self,
-        mode: u8,
-        submode: u8,
-        list: &[i32],
-        place: &mut [u8],
-    ) -> Result<(), FieldFault> {
-        STACK.write(mode, submode, list, place)
+    fn write(&self, modes: Modes, list: &[i32], place: &mut [u8]) -> Result<(), FieldFault> {
+        STACK.write(modes, list, place)
     }
 }

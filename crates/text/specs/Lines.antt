@@ -9,7 +9,7 @@ use Rattle.text.specs.declared.lines.Line.{Line}
 use Rattle.text.specs.declared.lines.Line.TheVariants.{Product, Block, Refusal}
 
 -- as `bytes=44 blocks=4 close=0`
-abbrev pub product_text : ProductLine → List ℕ
+unfoldable pub product_text : ProductLine → List ℕ
 product_text l =
     codes "bytes=" ++ numeral 10 l.bytes
     ++ codes " blocks=" ++ numeral 10 l.blocks
@@ -17,7 +17,7 @@ product_text l =
     ++ codes "\n"
 
 -- as `block=1 at=10 form=1 mode=5 submode=3 class=data numbers=6`
-abbrev pub block_text : BlockLine → List ℕ
+unfoldable pub block_text : BlockLine → List ℕ
 block_text l =
     codes "block=" ++ numeral 10 l.block
     ++ codes " at=" ++ numeral 10 l.at
@@ -29,7 +29,7 @@ block_text l =
     ++ codes "\n"
 
 -- as `refused=12 block=1 at=10 rule=4 offset=6`
-abbrev pub refusal_text : RefusalLine → List ℕ
+unfoldable pub refusal_text : RefusalLine → List ℕ
 refusal_text l =
     codes "refused=" ++ numeral 10 l.refused
     ++ codes " block=" ++ numeral 10 l.block

@@ -47,6 +47,7 @@ pub enum Line {
 }
 
 impl ProductLine {
+    #[tactic(auto, unfolding(crate::specs::Lines::product_text))]
     fn text(self) -> Text
         ensures { result.bytes ≡ product_text self }
     {
@@ -60,6 +61,7 @@ impl ProductLine {
 }
 
 impl BlockLine {
+    #[tactic(auto, unfolding(crate::specs::Lines::block_text))]
     fn text(self) -> Text
         ensures { result.bytes ≡ block_text self }
     {
@@ -78,6 +80,7 @@ impl BlockLine {
 }
 
 impl RefusalLine {
+    #[tactic(auto, unfolding(crate::specs::Lines::refusal_text))]
     fn text(self) -> Text
         ensures { result.bytes ≡ refusal_text self }
     {

@@ -5,10 +5,11 @@ use Rattle.wire.specs.Blocks.{read_head}
 use Rattle.wire.specs.Classes.{tabled}
 use Rattle.wire.specs.Pairs.{pair_sum}
 use Rattle.wire.specs.Rows.{behind}
-use Rattle.judging.specs.Blocks.{judged_block}
+use Rattle.judging.specs.Blocks.{judged_in}
 use Rattle.judging.specs.Places.{misplaced, astray}
 use Rattle.products.specs.Holding.{held}
 use Rattle.products.specs.Receipts.{receipt, closed_walk}
+use Rattle.text.specs.Lines.{product_text, block_text}
 use Rattle.text.specs.Numeral.{numeral}
 use Rattle.worked.specs.Worked.{Worked}
 
@@ -16,7 +17,7 @@ long : (rest : List ℕ) → ltb (length (0 ∷ 0 ∷ 0 ∷ 0 ∷ rest)) 4 ≡ f
 long rest = le-ltb _ _ (omega arith)
 
 pub shown : Worked
-unfolding read_head tabled pair_sum behind judged_block misplaced astray held receipt closed_walk numeral
+unfolding read_head tabled pair_sum behind judged_in misplaced astray held receipt closed_walk numeral product_text block_text
 shown = record {
   block = refl;
   words = refl;
