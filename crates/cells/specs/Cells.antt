@@ -86,18 +86,26 @@ pub record Faithful (limit : ℕ) (c : Code) : Type 0 where
   pub forth : (z : ℤ) (n : ℕ) → c.worth z ≡ Some n → (n < limit) × (c.number n ≡ Some z)
   pub back : (n : ℕ) (z : ℤ) → n < limit → c.number n ≡ Some z → Number z × (c.worth z ≡ Some n)
 
+-- what is made of the worth of a number from 0 to top, as it stands
+abbrev pub upto_in : {A : Type 0} → (ℕ → A) → ℕ → ℤ → Option A
+upto_in of top z = cond (within top z) (Some (of (unsigned_abs z))) None
+
 -- 0 to top, as it stands
 abbrev pub upto : ℕ → Code
 upto top = record {
   number = λ n. cond (nat_le n top) (Some (pos n)) None;
-  worth = λ z. cond (within top z) (Some (unsigned_abs z)) None;
+  worth = upto_in (λ n. n) top;
 }
+
+-- what is made of the worth of a number in two's complement
+abbrev pub twos_in : {A : Type 0} → (ℕ → A) → ℕ → ℤ → Option A
+twos_in of half z = cond (in_half half z) (Some (of (unsigned half z))) None
 
 -- two's complement
 abbrev pub twos : ℕ → Code
 twos half = record {
   number = λ n. Some (signed half n);
-  worth = λ z. cond (in_half half z) (Some (unsigned half z)) None;
+  worth = twos_in (λ n. n) half;
 }
 
 -- 0 or 128 for 0 or 1

@@ -1,0 +1,55 @@
+// Characters of seven bits, in bytes of a data field or in numbers of a list.
+ghost use Rattle.cells.specs.Characters.{byte_character, number_character, put_over};
+ghost use Rattle.std.specs.Prelude.{◌≡◌, ℕ, Option, map, not, is_some, position};
+
+/// A byte or a number, read as a character.
+pub trait Element {
+    ghost reads: { Self → Option ℕ };
+
+    /// The 7-bit character; none outside 0 to 127.
+    fn character(&self) -> Option<u8>
+        ensures { result ≡ reads self.now };
+}
+
+impl Element for u8 {
+    ghost reads = { byte_character };
+
+    fn character(&self) -> Option<u8> {
+        match *self {
+            0..=127 => Some(*self),
+            _ => None,
+        }
+    }
+}
+
+impl Element for i32 {
+    ghost reads = { number_character };
+
+    fn character(&self) -> Option<u8> {
+        match *self {
+            0..=127 => Some(*self as u8),
+            _ => None,
+        }
+    }
+}
+
+/// The index of the first element that is no character.
+pub fn first_outside<E: Element>(elements: &[E]) -> Option<usize>
+    ensures { result ≡ position (λ e. not (is_some (E.Element.reads e))) elements.now }
+{
+    elements
+        .iter()
+        .position(|element| element.character().is_none())
+}
+
+/// Writes each character over the byte at its place, and leaves a byte where there is none.
+pub fn put_characters<E: Element>(elements: &[E], place: &mut [u8])
+    ensures { place.new ≡ put_over (map E.Element.reads elements.now) place.old }
+{
+    // By index: after a `zip` of `iter_mut` a proof knows nothing of the place.
+    for (index, byte) in place.iter_mut().enumerate() {
+        if let Some(element) = elements.get(index) {
+            *byte = element.character().unwrap_or(*byte);
+        }
+    }
+}
