@@ -1,8 +1,10 @@
 -- A loop that puts characters over the bytes of a place.
 use Rattle.std.proofs.Common.{◌≡◌, ℕ, zero, suc, ◌+◌, ◌<◌, ◌≤◌, List, [], ◌∷◌, ◌++◌, map, length, get_or, take, drop, set, Option, refl, sym, ap, ◌∙◌, add-one, arith}
-use Rattle.std.specs.Prelude.{unwrap_or}
+use Rattle.std.specs.Prelude.{false, true, ℤ, pos, negsuc, nat_abs, unwrap_or}
+use Rattle.std.specs.List.{AllByRecursion}
 use Rattle.std.proofs.lemmas.List.{drop_all, take-append-drop, set-get_or}
-use Rattle.cells.specs.Characters.{put_over}
+use Rattle.books.specs.Words.{within}
+use Rattle.cells.specs.Characters.{top_character, number_character, put_over}
 
 module _ {X : Type 0} (reads : X → Option ℕ) where
   -- the place after the elements before i, and what the others are yet to make of it
@@ -38,3 +40,11 @@ module _ {X : Type 0} (reads : X → Option ℕ) where
       let n = put_nothing (map reads (drop i xs)) in
       let t = take-append-drop i place in
       rw (d, n) (rw d at t)
+
+-- numbers that are all characters fill a place of as many bytes
+pub put_numbers : (list : List ℤ) (place : List ℕ) → AllByRecursion (λ z. within top_character z ≡ true) list → length place ≡ length list → put_over (map number_character list) place ≡ map nat_abs list
+put_numbers [] [] h l = refl
+put_numbers [] (b ∷ place) h l = absurd (omega arith)
+put_numbers (z ∷ list) [] h l = absurd (omega arith)
+put_numbers (pos n ∷ list) (b ∷ place) h l = let e = h.0 in rw e (ap (λ t. n ∷ t) (put_numbers list place h.1 (omega arith)))
+put_numbers (negsuc n ∷ list) (b ∷ place) h l = let z : ◌≡◌ {A = ℕ} 0 1 = let b : false ≡ true = h.0 in cc in absurd (omega arith)

@@ -11,8 +11,9 @@ use Rattle.books.specs.declared.faults.Rule.{Rule}
 use Rattle.books.specs.Books.{Agree, Number, most_bytes}
 use Rattle.books.specs.Faults.{fault_at}
 use Rattle.books.specs.Words.{bad_length, within}
+use Rattle.cells.specs.Characters.{top_character, byte_character, number_character}
 use Rattle.texts.specs.declared.scan.Rules.{Rules}
-use Rattle.texts.specs.Texts.{top_character, byte_character, number_character, TextMeaning, broken, refuse_broken, first_broken, ends_in_nul, lacks, checked, field_rules, list_rules, text_kind}
+use Rattle.texts.specs.Texts.{TextMeaning, broken, refuse_broken, first_broken, ends_in_nul, lacks, checked, field_rules, list_rules, text_kind}
 
 -- ---- a text without a fault
 unbroken : (o : Option Rule) (i : ℕ) (u : Unit {0}) → refuse_broken o i ≡ Ok u → o ≡ None

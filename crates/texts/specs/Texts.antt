@@ -1,5 +1,5 @@
 -- Texts of 7-bit characters: a text's numbers are its bytes in order.
-use Rattle.std.specs.Prelude.{ℕ, ◌+◌, ◌-◌, Bool, false, cond, ◌&&◌, ◌||◌, List, [], ◌∷◌, map, length, ℤ, pos, negsuc, Some, None, Ok, Err, Option, Result, ◌==◌, nat_le, nat_lt, slice_index_or, unsigned_abs}
+use Rattle.std.specs.Prelude.{ℕ, ◌+◌, ◌-◌, Bool, false, cond, ◌&&◌, ◌||◌, List, [], ◌∷◌, map, length, pos, Some, None, Ok, Err, Option, Result, ◌==◌, nat_lt, slice_index_or, unsigned_abs}
 use Rattle.wire.specs.Steps.{◌>>=◌, refuse}
 use Rattle.books.specs.declared.faults.Rule.{Rule}
 use Rattle.books.specs.declared.faults.Rule.TheVariants.{DataLength, ListLength, NumberRange, ByteRange, EarlyEnd, WrongEnd, StraySeparator}
@@ -7,20 +7,8 @@ use Rattle.books.specs.declared.faults.FieldFault.{FieldFault}
 use Rattle.books.specs.Faults.{fault_at}
 use Rattle.books.specs.Words.{bad_length}
 use Rattle.kinds.specs.Kinds.{KindMeaning}
+use Rattle.cells.specs.Characters.{byte_character, number_character}
 use Rattle.texts.specs.declared.scan.Rules.{Rules}
-
--- the highest character
-abbrev pub top_character : ℕ
-top_character = 127
-
--- a byte as a character: none above the highest
-abbrev pub byte_character : ℕ → Option ℕ
-byte_character b = cond (nat_le b top_character) (Some b) None
-
--- a number as a character: none below 0 or above the highest
-abbrev pub number_character : ℤ → Option ℕ
-number_character (pos n) = byte_character n
-number_character (negsuc n) = None
 
 -- What a kind of text asks: so many characters at least, and which rule a character breaks.
 -- The first argument says that no character follows, the second that the text ends in NUL.

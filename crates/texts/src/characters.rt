@@ -1,13 +1,11 @@
 // The kind of any text.
-ghost use Rattle.books.specs.Words.{within};
-ghost use Rattle.std.specs.List.{AllByRecursion};
 ghost use Rattle.texts.specs.TextLaws.{text_agree};
-ghost use Rattle.texts.specs.Texts.{text_kind, top_character};
-ghost use Rattle.std.specs.Prelude.{◌≡◌, true, map, length, unsigned_abs};
+ghost use Rattle.texts.specs.Texts.{text_kind};
 
 use crate::scan::{FIELD_RULES, LIST_RULES, check};
 use crate::text::Text;
 use books::faults::{FieldFault, Rule};
+use cells::characters::put_characters;
 use kinds::fixed::Byte;
 use kinds::kind::Kind;
 
@@ -36,10 +34,8 @@ impl<T: Text> Kind for Characters<T> {
     }
 
     fn number(&self, field: &[u8], index: usize) -> Option<i32> {
-        match self.judge(field) {
-            Ok(count) if index < count => Some(i32::from(field[index])),
-            _ => None,
-        }
+        self.judge(field).ok()?;
+        field.get(index).map(|byte| i32::from(*byte))
     }
 
     fn weigh(&self, list: &[i32]) -> Result<usize, FieldFault> {
@@ -50,23 +46,9 @@ impl<T: Text> Kind for Characters<T> {
     fn write(&self, list: &[i32], place: &mut [u8]) -> Result<(), FieldFault> {
         let weight = self.weigh(list)?;
         if place.len() != weight {
-            return Err(FieldFault {
-                rule: Rule::DataLength,
-                place: place.len(),
-            });
+            return Err(Rule::DataLength.at(place.len()));
         }
         put_characters(list, place);
         Ok(())
-    }
-}
-
-/// Writes each number as a byte.
-fn put_characters(list: &[i32], place: &mut [u8])
-    requires fit { AllByRecursion (λ z. within top_character z ≡ true) list.now }
-    requires room { length place.old ≡ length list.now }
-    ensures { place.new ≡ map unsigned_abs list.now }
-{
-    for (index, number) in list.iter().enumerate() {
-        place[index] = *number as u8;
     }
 }

@@ -2,7 +2,6 @@
 #![tactic(auto)]
 
 pub mod characters;
-mod element;
 pub mod message;
 pub mod routing;
 mod scan;

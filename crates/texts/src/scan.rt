@@ -1,13 +1,13 @@
 // The first fault of a text, alike for the bytes of a data field and the numbers of a list.
-ghost use Rattle.texts.specs.Texts.{broken, checked, ends_in_nul, first_broken, is_nul, lacks};
+ghost use Rattle.texts.specs.Texts.{broken, checked, ends_in_nul, first_broken, lacks};
 ghost use Rattle.books.specs.Faults.{fault_at};
 ghost use Rattle.wire.specs.Steps.{refuse};
 ghost use Rattle.std.specs.Prelude.{◌≡◌, map, length};
 
-use crate::element::Element;
 use crate::text::{NUL, Text};
 use books::book::MOST_BYTES;
 use books::faults::{FieldFault, Rule};
+use cells::characters::Element;
 
 /// The rules whose number depends on where a text stands.
 #[derive(Clone, Copy)]
@@ -43,10 +43,7 @@ fn check_length(length: usize, fewest: usize, rule: Rule) -> Result<(), FieldFau
     ensures { result ≡ refuse (lacks fewest length) (fault_at rule length) }
 {
     if length % 2 != 0 || length > MOST_BYTES || length < fewest {
-        return Err(FieldFault {
-            rule,
-            place: length,
-        });
+        return Err(rule.at(length));
     }
     Ok(())
 }
@@ -55,16 +52,7 @@ fn check_length(length: usize, fewest: usize, rule: Rule) -> Result<(), FieldFau
 fn ends_in_nul<E: Element>(elements: &[E]) -> bool
     ensures { result ≡ ends_in_nul (map E.Element.reads elements.now) }
 {
-    match elements.last() {
-        Some(element) => is_nul(element.character()),
-        None => false,
-    }
-}
-
-fn is_nul(character: Option<u8>) -> bool
-    ensures { result ≡ is_nul character }
-{
-    matches!(character, Some(NUL))
+    elements.last().and_then(|element| element.character()) == Some(NUL)
 }
 
 /// Refuses a text at its first element that breaks a rule; `nul` says that the text ends in NUL.
@@ -78,25 +66,13 @@ fn check_each<T: Text, E: Element>(
 {
     for (index, element) in elements.iter().enumerate() {
         let last = index + 1 == elements.len();
-        if let Some(rule) = broken_rule(text, element.character(), last, nul, range) {
-            return Err(FieldFault { rule, place: index });
+        let broken = match element.character() {
+            Some(code) => text.broken_rule(code, last, nul),
+            None => Some(range),
+        };
+        if let Some(rule) = broken {
+            return Err(rule.at(index));
         }
     }
     Ok(())
-}
-
-/// The rule that an element breaks, `range` where it is no character.
-fn broken_rule<T: Text>(
-    text: &T,
-    character: Option<u8>,
-    last: bool,
-    nul: bool,
-    range: Rule,
-) -> Option<Rule>
-    ensures { result ≡ broken range ((T.Text.meaning text.now).breaks last nul) character }
-{
-    match character {
-        Some(code) => text.broken_rule(code, last, nul),
-        None => Some(range),
-    }
 }
