@@ -11,14 +11,15 @@ use Rattle.books.specs.Books.{Reading, Writing, judged, weighed}
 use Rattle.books.specs.Words.{within}
 use Rattle.cells.specs.Signs.{signed, byte_half, pair_half}
 use Rattle.cells.specs.Cells.{turns, checked, or_fault, upto, flag_numbers}
+use Rattle.cells.specs.Characters.{byte_character, number_character}
 use Rattle.cells.specs.CellLaws.{turned}
 use Rattle.cells.specs.CodeLaws.{tested, found}
 use Rattle.cells.specs.Layouts.{whole, fitted}
 use Rattle.cells.specs.LayoutLaws.{layout_read, layout_written, whole_sound}
 use Rattle.cells.proofs.Turning.{checked_turn}
-use Rattle.labels.specs.Labels.{labels, character, labels_meaning, written_head}
+use Rattle.labels.specs.Labels.{labels, character, labels_meaning, characters_checked, written_head}
 use Rattle.labels.specs.LabelLaws.{head_sound, character_sound}
-use Rattle.labels.proofs.Characters.{counted_length, one_by_one}
+use Rattle.labels.proofs.Characters.{counted_length, field_characters, list_characters}
 use Rattle.labels.proofs.Heads.{seven}
 use Rattle.labels.proofs.Tails.{tail_at}
 
@@ -85,7 +86,7 @@ field_accepted field a n e h = go (labels_meaning.reading field) refl (sym e ∙
 abbrev pub field_checks : List ℕ → Result ℕ FieldFault
 field_checks field = do
   _ ← or_fault DataLength (length field) (fitted labels.many 7 1 (length field))
-  _ ← one_by_one character.reading 7 field
+  _ ← characters_checked ByteRange (map byte_character field)
   Ok (length field)
 
 judged_checked : (r : Reading) (n : ℕ) → ((list : List ℤ) → r ≡ Ok list → length list ≡ n) → judged r ≡ (checked r >>= λ _. Ok n)
@@ -95,14 +96,15 @@ judged_checked (Err f) n l = refl
 pub field_judged : (field : List ℕ) → field_checks field ≡ judged (labels_meaning.reading field)
 field_judged field = go (or_fault DataLength (length field) (fitted labels.many 7 1 (length field))) refl
   where
-    go : (o : Result ℕ FieldFault) → or_fault DataLength (length field) (fitted labels.many 7 1 (length field)) ≡ o → (o >>= λ _. one_by_one character.reading 7 field >>= λ _. Ok (length field)) ≡ judged (o >>= λ k. (whole labels k).reading 0 field)
+    go : (o : Result ℕ FieldFault) → or_fault DataLength (length field) (fitted labels.many 7 1 (length field)) ≡ o → (o >>= λ _. characters_checked ByteRange (map byte_character field) >>= λ _. Ok (length field)) ≡ judged (o >>= λ k. (whole labels k).reading 0 field)
     go (Err f) e = refl
     go (Ok k) e =
         let c = counted_length DataLength (length field) k e in
         let t = checked_turn 7 labels.head.reading (turns k 1 character.reading) 0 field in
         let b = c.2 in
+        let f = field_characters field in
         let j = judged_checked ((whole labels k).reading 0 field) (length field) (λ list h. let n = (whole_sound labels head_sound character_sound k).counted 0 field list (omega arith) h in omega arith) in
-        sym (j ∙ rw t (rw b refl))
+        sym (j ∙ rw (t, f) (rw b refl))
 
 -- ---- an accepted list
 list_length : (list : List ℤ) (field : List ℕ) → labels_meaning.writing list ≡ Ok field → length field ≡ length list
@@ -138,18 +140,19 @@ abbrev pub list_checks : List ℤ → Writing
 list_checks list = do
   _ ← or_fault ListLength (length list) (fitted labels.many 7 1 (length list))
   head ← labels.head.writing 0 (take 7 list)
-  _ ← one_by_one character.writing 7 list
+  _ ← characters_checked NumberRange (map number_character list)
   Ok head
 
 pub list_checked : (list : List ℤ) → list_checks list ≡ written_head (labels_meaning.writing list)
 list_checked list = go (or_fault ListLength (length list) (fitted labels.many 7 1 (length list))) refl
   where
-    go : (o : Result ℕ FieldFault) → or_fault ListLength (length list) (fitted labels.many 7 1 (length list)) ≡ o → (o >>= λ _. labels.head.writing 0 (take 7 list) >>= λ head. one_by_one character.writing 7 list >>= λ _. Ok head) ≡ written_head (o >>= λ k. (whole labels k).writing 0 list)
+    go : (o : Result ℕ FieldFault) → or_fault ListLength (length list) (fitted labels.many 7 1 (length list)) ≡ o → (o >>= λ _. labels.head.writing 0 (take 7 list) >>= λ head. characters_checked NumberRange (map number_character list) >>= λ _. Ok head) ≡ written_head (o >>= λ k. (whole labels k).writing 0 list)
     go (Err f) e = refl
     go (Ok k) e =
         let c = counted_length ListLength (length list) k e in
         let b = c.2 in
-        rw b (parts (labels.head.writing 0 (take 7 list)) (turns (length list - 7) 1 character.writing 7 (drop 7 list)) (λ head h. (head_sound.written 0 (take 7 list) head (length-take-le 7 list (omega arith)) h).0))
+        let f = list_characters list in
+        rw (f, b) (parts (labels.head.writing 0 (take 7 list)) (turns (length list - 7) 1 character.writing 7 (drop 7 list)) (λ head h. (head_sound.written 0 (take 7 list) head (length-take-le 7 list (omega arith)) h).0))
       where
         parts : (a r : Writing) → ((head : List ℕ) → a ≡ Ok head → length head ≡ 7) → (a >>= λ head. checked r >>= λ _. Ok head) ≡ written_head (a >>= λ head. r >>= λ more. Ok (head ++ more))
         parts (Err f) r l = refl

@@ -2,8 +2,9 @@
 ghost use Rattle.labels.specs.LabelLaws.{labels_lawful};
 ghost use Rattle.labels.specs.Labels.{labels_meaning};
 
-use crate::parts::{HEAD, check_bytes, check_length, check_list, number_at, put_characters};
+use crate::parts::{HEAD, check_characters, check_length, check_list, number_at};
 use books::faults::{FieldFault, Rule};
+use cells::characters::put_characters;
 use kinds::fixed::Byte;
 use kinds::kind::Kind;
 
@@ -26,7 +27,7 @@ impl Kind for Labels {
 
     fn judge(&self, field: &[u8]) -> Result<usize, FieldFault> {
         check_length(field.len(), Rule::DataLength)?;
-        check_bytes(field)?;
+        check_characters(field, Rule::ByteRange)?;
         Ok(field.len())
     }
 
@@ -38,20 +39,17 @@ impl Kind for Labels {
     }
 
     fn weigh(&self, list: &[i32]) -> Result<usize, FieldFault> {
-        let _head = check_list(list)?;
+        check_list(list)?;
         Ok(list.len())
     }
 
     fn write(&self, list: &[i32], place: &mut [u8]) -> Result<(), FieldFault> {
         let head = check_list(list)?;
         if place.len() != list.len() {
-            return Err(FieldFault {
-                rule: Rule::DataLength,
-                place: place.len(),
-            });
+            return Err(Rule::DataLength.at(place.len()));
         }
-        place[0..HEAD].copy_from_slice(&head);
-        put_characters(list, place);
+        place[..HEAD].copy_from_slice(&head);
+        put_characters(&list[HEAD..], &mut place[HEAD..]);
         Ok(())
     }
 }

@@ -1,10 +1,10 @@
-use Rattle.std.proofs.Common.{◌≡◌, ◌++◌, map, length, drop, nat_abs, Err, sym, ap, ◌∙◌, arith, rules}
-use borrow.Rule.Slice.PartMut.{post_of}
-use Rattle.std.proofs.lemmas.List.{length-take-le, take_at}
+use Rattle.std.proofs.Common.{◌≡◌, ◌++◌, map, length, drop, nat_abs, Err, sym, refl, ap, ◌∙◌, arith, rules}
+use Rattle.std.proofs.lemmas.List.{length-take-le}
 use Rattle.std.proofs.lemmas.Result.{err_from_is_err_and}
 use Rattle.std.proofs.lemmas.Bool.{eq-eqb, ne_eqb}
 use Rattle.books.specs.Books.{answered, placed}
 use Rattle.labels.proofs.Lists.{head_refused, list_bytes}
+use Rattle.labels.proofs.Tails.{put_behind}
 use Rattle.labels.proofs.kind.LabelsKind.write.Goals as goal
 
 pub returns-in_err-head : goal.returns-in_err-head
@@ -19,12 +19,7 @@ returns-then-place-list c =
     let k = list_bytes c.args.list.now c.in_ok-head.head (sym c.check_list.ensures ∙ c.in_ok-head.was) in
     let place = c.args.place.now in
     let n = ne_eqb (length place) (length (c.in_ok-head.head ++ map nat_abs (drop 7 c.args.list.now))) (λ e. let s = k.3 in omega arith) in
-    record { answer = rw (k.2, n); after = rw (k.2, n) }
-
-pub put_characters-requires : goal.put_characters-requires
-put_characters-requires c =
-    let k = list_bytes c.args.list.now c.in_ok-head.head (sym c.check_list.ensures ∙ c.in_ok-head.was) in
-    record { head = k.0; fit = k.1; room = search rules }
+    record { answer = rw (k.2, n) (search rules); after = rw (k.2, n) refl }
 
 pub returns : goal.returns
 returns c =
@@ -32,5 +27,5 @@ returns c =
     let place = c.args.place.now in
     let e = eq-eqb (length place) (length (c.in_ok-head.head ++ map nat_abs (drop 7 c.args.list.now))) (omega (arith, k.3)) in
     let size : length c.copy_from_slice.new.self ≡ 7 = c.copy_from_slice.ensures.len ∙ length-take-le 7 place (omega (arith, k.0)) in
-    let front = take_at c.copy_from_slice.new.self (post_of 0 7 place) 7 size ∙ c.copy_from_slice.ensures.after in
-    record { answer = rw (k.2, e); after = rw (k.2, e) (c.put_characters.ensures ∙ ap (λ h. h ++ map nat_abs (drop 7 c.args.list.now)) front) }
+    let front = ap (λ h. h ++ map nat_abs (drop 7 c.args.list.now)) c.copy_from_slice.ensures.after in
+    record { answer = rw (k.2, e); after = rw (k.2, e) (put_behind c.copy_from_slice.new.self place _ c.args.list.now size k.0 (omega arith) k.1 c.put_characters.ensures ∙ front) }
