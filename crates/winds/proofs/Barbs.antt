@@ -1,6 +1,7 @@
 -- A barb's checks one after another, with each place counted from the barb's first.
-use Rattle.std.proofs.Common.{◌≡◌, ℕ, zero, suc, ◌+◌, ◌/◌, ◌%◌, ◌<◌, ◌≤◌, true, leb, List, [], ◌∷◌, ◌++◌, length, get_or, take, drop, ℤ, pos, Ok, Err, Result, sym, refl, ap, ◌∙◌, add-zero, arith}
-use Rattle.std.proofs.lemmas.List.{drop_more}
+use Rattle.std.proofs.Common.{◌≡◌, ℕ, zero, suc, ◌+◌, ◌-◌, ◌*◌, ◌/◌, ◌%◌, ◌<◌, ◌≤◌, true, leb, List, [], ◌∷◌, ◌++◌, length, get_or, take, drop, ℤ, pos, Ok, Err, Result, sym, refl, ap, ◌∙◌, add-zero, mul-zero, mul-suc, arith}
+use Rattle.std.proofs.lemmas.List.{drop_more, drop-drop, length-drop, take_all}
+use Rattle.std.specs.Simd.{first_chunks}
 use Rattle.std.proofs.lemmas.Bool.{le-leb}
 use Rattle.wire.specs.Pairs.{pair, pair_bytes}
 use Rattle.wire.specs.Steps.{◌>>=◌}
@@ -119,15 +120,40 @@ barb_was_read at a b c d e f g h i j l =
     (or_fault ByteRange (at + 6) ((upto 32767).number (pair g h)))
     (or_fault ByteRange (at + 9) ((upto 1).number j))))
 
-abbrev pub barb_reading_at : ℕ → List ℕ → Result Barb FieldFault
-barb_reading_at at f = barb_reading at (get_or f at 0) (get_or f (at + 1) 0) (get_or f (at + 2) 0) (get_or f (at + 3) 0) (get_or f (at + 4) 0) (get_or f (at + 5) 0) (get_or f (at + 6) 0) (get_or f (at + 7) 0) (get_or f (at + 8) 0) (get_or f (at + 9) 0)
+abbrev pub barb_reading_of : ℕ → List ℕ → Result Barb FieldFault
+barb_reading_of at f = barb_reading at (get_or f 0 0) (get_or f 1 0) (get_or f 2 0) (get_or f 3 0) (get_or f 4 0) (get_or f 5 0) (get_or f 6 0) (get_or f 7 0) (get_or f 8 0) (get_or f 9 0)
 
-pub barb_read_at : (at : ℕ) (f : List ℕ) → at + 10 ≤ length f → get_or f (at + 8) 0 < 256 → barb_reading_at at f ≡ barb_read at (take 10 (drop at f))
-barb_read_at at f l g =
-    let e = seen_all f at 0 10 l in
-    let z = add-zero at in
-    barb_was_read at (get_or f at 0) (get_or f (at + 1) 0) (get_or f (at + 2) 0) (get_or f (at + 3) 0) (get_or f (at + 4) 0) (get_or f (at + 5) 0) (get_or f (at + 6) 0) (get_or f (at + 7) 0) (get_or f (at + 8) 0) (get_or f (at + 9) 0) g
-    ∙ ap (barb_read at) (ap (λ x. get_or f x 0 ∷ seen f at 0 9 1) (sym z) ∙ sym e)
+pub barb_read_of : (at : ℕ) (f : List ℕ) → length f ≡ 10 → get_or f 8 0 < 256 → barb_reading_of at f ≡ barb_read at f
+barb_read_of at f l g =
+    let e : f ≡ seen f 0 0 10 0 = sym (take_all 10 f (omega arith)) ∙ seen_all f 0 0 10 (omega arith) in
+    barb_was_read at (get_or f 0 0) (get_or f 1 0) (get_or f 2 0) (get_or f 3 0) (get_or f 4 0) (get_or f 5 0) (get_or f 6 0) (get_or f 7 0) (get_or f 8 0) (get_or f 9 0) g
+    ∙ ap (barb_read at) (sym e)
+
+-- ---- a chunk of many
+pub chunk_at : {X : Type 0} (n k i : ℕ) (xs : List X) (d : List X) → i < k → get_or (first_chunks n k xs) i d ≡ take n (drop (n * i) xs)
+chunk_at n zero i xs d l = absurd (omega arith)
+chunk_at n (suc k) zero xs d l = let z = mul-zero n in rw z refl
+chunk_at n (suc k) (suc i) xs d l =
+    let e : drop (n * suc i) xs ≡ drop (n * i) (drop n xs) = ap (λ j. drop j xs) (omega (arith, mul-suc n i)) ∙ sym (drop-drop (n * i) n xs) in
+    chunk_at n k i (drop n xs) d (omega arith) ∙ ap (take n) (sym e)
+
+-- the same behind the first so many
+pub chunk_of : {X : Type 0} (n first i : ℕ) (xs : List X) (chunks : List (List X)) (d : List X) → chunks ≡ first_chunks n (length (take (length xs - first) (drop first xs)) / n) (take (length xs - first) (drop first xs)) → length chunks ≡ length (take (length xs - first) (drop first xs)) / n → i < length chunks → get_or chunks i d ≡ take n (drop (first + n * i) xs)
+chunk_of n first i xs chunks d e l h =
+    let t = take_all (length xs - first) (drop first xs) (omega (arith, length-drop first xs)) in
+    let c = chunk_at n (length (take (length xs - first) (drop first xs)) / n) i (take (length xs - first) (drop first xs)) d (omega arith) in
+    let u = drop-drop (n * i) first xs in
+    rw (e, ← u) (c ∙ ap (λ ys. take n (drop (n * i) ys)) t)
+
+-- the six numbers of a barb in a list
+pub six : (list : List ℤ) (at : ℕ) → at + 6 ≤ length list → barb_numbers (barb_of (take 6 (drop at list))) ≡ take 6 (drop at list)
+six list at l = let e = seen_all list at (pos 0) 6 l in rw e
+
+pub barb_taken : (list : List ℤ) (k : ℕ) (chunks : List (List ℤ)) (b : Barb) → chunks ≡ first_chunks 6 (length (take (length list - 2) (drop 2 list)) / 6) (take (length list - 2) (drop 2 list)) → length chunks ≡ length (take (length list - 2) (drop 2 list)) / 6 → k < length chunks → b ≡ barb_of (get_or chunks k []) → barb_numbers b ≡ take 6 (drop (2 + 6 * k) list)
+barb_taken list k chunks b e l h is =
+    let t = ap length (take_all (length list - 2) (drop 2 list) (omega (arith, length-drop 2 list))) in
+    let c = chunk_of 6 2 k list chunks [] e l h in
+    ap barb_numbers (is ∙ ap barb_of c) ∙ six list (2 + 6 * k) (omega (arith, length-drop 2 list))
 
 -- ---- a barb that is read passes, and one that is not has the same fault
 pub read_passes : (r : Result (List ℤ) FieldFault) (b : Barb) → (r >>= λ l. Ok (barb_of l)) ≡ Ok b → checked r ≡ Ok tt

@@ -15,8 +15,8 @@ use Rattle.cells.specs.LayoutLaws.{layout_read, layout_written, whole_sound}
 use Rattle.cells.proofs.Turning.{part_of}
 use Rattle.winds.specs.declared.barb.Barb.{Barb}
 use Rattle.winds.specs.Winds.{barb, winds, barb_numbers, barb_of, barb_read}
-use Rattle.winds.specs.WindLaws.{head_sound, barb_sound}
-use Rattle.winds.proofs.Barbs.{seen_all}
+use Rattle.winds.specs.WindLaws.{head_sound, barb_sound, few_barbs}
+use Rattle.winds.proofs.Barbs.{six}
 
 -- ---- what an accepted field is, and the number at an index
 pub record Read (field : List ℕ) (index : ℕ) : Type 0 where
@@ -26,6 +26,7 @@ pub record Read (field : List ℕ) (index : ℕ) : Type 0 where
   pub count : length list ≡ 2 + barbs * 6
   pub below : index < length list
   pub is : layout_reading winds field ≡ Ok list
+  pub few : barbs ≤ 409
   pub all : (whole winds barbs).reading 0 field ≡ Ok list
 
 ok_list : (r : Reading) (index : ℕ) → is_ok (judged r) ≡ true → IfOk (judged r) (λ n. index < n) → (list : List ℤ) × (r ≡ Ok list) × (index < length list)
@@ -37,7 +38,7 @@ read_known field index h l =
     let k = ok_list (layout_reading winds field) index h l in
     let p = layout_read winds field k.0 k.1 in
     let n = (whole_sound winds head_sound barb_sound p.0).counted 0 field k.0 p.1 p.3 in
-    record { barbs = p.0; list = k.0; size = p.1; count = n; below = k.2; is = k.1; all = p.3 }
+    record { barbs = p.0; list = k.0; few = (few_barbs p.0 p.2).1; size = p.1; count = n; below = k.2; is = k.1; all = p.3 }
 
 pub past : (r : Reading) (a : Result ℕ FieldFault) (count index : ℕ) → a ≡ judged r → a ≡ Ok count → count ≤ index → None ≡ number_at r index
 past (Ok list) a count index e h l = let n : length list ≡ count = cc in sym (slice_get_past list index (omega arith))
@@ -49,13 +50,13 @@ barb_at field list k i l h lt =
     let p = part_of 2 2 10 6 winds.head.reading barb.reading head_sound.counted barb_sound.counted k field list l h i lt in
     rw p
 
-six : (list : List ℤ) (at : ℕ) → at + 6 ≤ length list → barb_numbers (barb_of (take 6 (drop at list))) ≡ take 6 (drop at list)
-six list at l = let e = seen_all list at (pos 0) 6 l in rw e
+-- the chunks of an accepted field are its barbs, and each reads as one
+pub chunk_count : (field : List ℕ) (k n : ℕ) → length field ≡ 2 + k * 10 → n ≡ length (take (length field - 2) (drop 2 field)) / 10 → n ≡ k
+chunk_count field k n l e = let t = ap length (take_all (length field - 2) (drop 2 field) (omega (arith, length-drop 2 field))) in omega (arith, length-drop 2 field)
 
-pub number_in : (list : List ℤ) (k index : ℕ) (b : Barb) → length list ≡ 2 + k * 6 → 2 ≤ index → index < length list → ◌≡◌ {A = Result Barb FieldFault} (Ok (barb_of (take 6 (drop (2 + 6 * ((index - 2) / 6)) list)))) (Ok b) → Some (get_or (barb_numbers b) ((index - 2) % 6) (pos 0)) ≡ slice_get list index
-number_in list k index b n two l h =
+pub number_in : (list : List ℤ) (k index : ℕ) (b : Barb) → length list ≡ 2 + k * 6 → 2 ≤ index → index < length list → barb_of (take 6 (drop (2 + 6 * ((index - 2) / 6)) list)) ≡ b → Some (get_or (barb_numbers b) ((index - 2) % 6) (pos 0)) ≡ slice_get list index
+number_in list k index b n two l e =
     let at = 2 + 6 * ((index - 2) / 6) in
-    let e : barb_of (take 6 (drop at list)) ≡ b = cc in
     let s : take 6 (drop at list) ≡ barb_numbers b = sym (six list at (omega arith)) ∙ ap barb_numbers e in
     let g = get_or-take 6 (drop at list) ((index - 2) % 6) (pos 0) (omega arith) in
     let d = get_or-drop at list ((index - 2) % 6) (pos 0) in

@@ -1,10 +1,11 @@
 // One barb: ten bytes, six numbers.
 ghost use Rattle.winds.specs.Winds.{barb, barb_numbers, barb_read};
-ghost use Rattle.std.specs.Prelude.{◌≡◌, ◌+◌, ◌≤◌, length, take, drop};
+ghost use Rattle.std.specs.Prelude.{◌≡◌, ◌≤◌};
 
 use books::faults::FieldFault;
-use cells::codes::{read_byte, read_pair, write_byte, write_pair, write_signed_pair};
-use cells::signs::signed_pair;
+use cells::cell::Cell;
+use cells::codes::{read_up_to, write_signed, write_up_to};
+use wire::pairs::worth;
 
 /// The highest direction, in degrees.
 const TOP_DIRECTION: u16 = 360;
@@ -23,60 +24,62 @@ pub struct Barb {
     pub hemisphere: i32,
 }
 
+impl From<Barb> for [i32; 6] {
+    ghost use Rattle.winds.specs.Winds.{barb_numbers};
+
+    ghost from_gives = { λ b l. l ≡ barb_numbers b };
+
+    fn from(barb: Barb) -> [i32; 6] {
+        [
+            barb.m,
+            barb.n,
+            barb.direction,
+            barb.speed,
+            barb.gust,
+            barb.hemisphere,
+        ]
+    }
+}
+
+impl From<[i32; 6]> for Barb {
+    ghost use Rattle.winds.specs.Winds.{barb_of};
+
+    ghost from_gives = { λ l b. b ≡ barb_of l };
+
+    fn from(numbers: [i32; 6]) -> Barb {
+        let [m, n, direction, speed, gust, hemisphere] = numbers;
+        Barb {
+            m,
+            n,
+            direction,
+            speed,
+            gust,
+            hemisphere,
+        }
+    }
+}
+
 impl Barb {
     /// The six numbers, in their order.
     pub fn numbers(self) -> [i32; 6]
         ensures { result ≡ barb_numbers self }
     {
-        let Barb {
-            m,
-            n,
-            direction,
-            speed,
-            gust,
-            hemisphere,
-        } = self;
-        [m, n, direction, speed, gust, hemisphere]
+        self.into()
     }
 
-    /// The barb of six numbers of a list.
-    pub(crate) fn of(list: &[i32], index: usize) -> Barb
-        requires { index + 6 ≤ length list.now }
-        ensures { barb_numbers result ≡ take 6 (drop index list.now) }
+    /// Reads ten bytes of a data field, which stand from an offset on.
+    pub(crate) fn read(bytes: &[u8; 10], offset: usize) -> Result<Barb, FieldFault>
+        requires { offset ≤ 4082 }
+        ensures { result ≡ barb_read offset bytes.now }
     {
-        Barb {
-            m: list[index],
-            n: list[index + 1],
-            direction: list[index + 2],
-            speed: list[index + 3],
-            gust: list[index + 4],
-            hemisphere: list[index + 5],
-        }
-    }
-
-    /// Reads ten bytes of a data field.
-    pub(crate) fn read(field: &[u8], offset: usize) -> Result<Barb, FieldFault>
-        requires { offset + 10 ≤ length field.now }
-        ensures { result ≡ barb_read offset (take 10 (drop offset field.now)) }
-    {
-        let m = signed_pair(field[offset], field[offset + 1]);
-        let n = signed_pair(field[offset + 2], field[offset + 3]);
-        let direction = read_pair(
-            field[offset + 4],
-            field[offset + 5],
-            TOP_DIRECTION,
-            offset + 4,
-        )?;
-        let speed = read_pair(field[offset + 6], field[offset + 7], TOP_SPEED, offset + 6)?;
-        let gust = i32::from(field[offset + 8]);
-        let hemisphere = read_byte(field[offset + 9], 1, offset + 9)?;
+        let [m0, m1, n0, n1, d0, d1, s0, s1, gust, hemisphere] = *bytes;
         Ok(Barb {
-            m,
-            n,
-            direction,
-            speed,
-            gust,
-            hemisphere,
+            m: worth(m0, m1).signed(),
+            n: worth(n0, n1).signed(),
+            direction: read_up_to(worth(d0, d1), TOP_DIRECTION, offset + 4)?,
+            speed: read_up_to(worth(s0, s1), TOP_SPEED, offset + 6)?,
+            gust: i32::from(gust),
+            hemisphere: read_up_to(hemisphere, 1, offset + 9)?,
         })
     }
 
@@ -85,12 +88,12 @@ impl Barb {
         requires { index ≤ 2456 }
         ensures { result ≡ barb.writing index (barb_numbers self) }
     {
-        let [m0, m1] = write_signed_pair(self.m, index)?.to_be_bytes();
-        let [n0, n1] = write_signed_pair(self.n, index + 1)?.to_be_bytes();
-        let [d0, d1] = write_pair(self.direction, TOP_DIRECTION, index + 2)?.to_be_bytes();
-        let [s0, s1] = write_pair(self.speed, TOP_SPEED, index + 3)?.to_be_bytes();
-        let gust = write_byte(self.gust, u8::MAX, index + 4)?;
-        let hemisphere = write_byte(self.hemisphere, 1, index + 5)?;
+        let [m0, m1] = write_signed::<u16>(self.m, index)?.to_be_bytes();
+        let [n0, n1] = write_signed::<u16>(self.n, index + 1)?.to_be_bytes();
+        let [d0, d1] = write_up_to(self.direction, TOP_DIRECTION, index + 2)?.to_be_bytes();
+        let [s0, s1] = write_up_to(self.speed, TOP_SPEED, index + 3)?.to_be_bytes();
+        let gust = write_up_to(self.gust, u8::MAX, index + 4)?;
+        let hemisphere = write_up_to(self.hemisphere, 1, index + 5)?;
         Ok([m0, m1, n0, n1, d0, d1, s0, s1, gust, hemisphere])
     }
 }

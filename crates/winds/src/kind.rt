@@ -6,7 +6,7 @@ use crate::parts::{
     BARB_BYTES, BARB_NUMBERS, check_bytes, check_numbers, count_barbs, number_at, put,
 };
 use books::faults::{FieldFault, Rule};
-use cells::codes::{read_blanking, write_blanking, write_byte};
+use cells::codes::{read_blanking, write_blanking, write_up_to};
 use kinds::fixed::Byte;
 use kinds::kind::Kind;
 
@@ -29,7 +29,7 @@ impl Kind for Winds {
 
     fn judge(&self, field: &[u8]) -> Result<usize, FieldFault> {
         let barbs = count_barbs(field.len(), BARB_BYTES, Rule::DataLength)?;
-        let _ = read_blanking(field[1], 1)?;
+        read_blanking(field[1], 1)?;
         check_bytes(field, barbs)?;
         Ok(2 + BARB_NUMBERS * barbs)
     }
@@ -43,8 +43,8 @@ impl Kind for Winds {
 
     fn weigh(&self, list: &[i32]) -> Result<usize, FieldFault> {
         let barbs = count_barbs(list.len(), BARB_NUMBERS, Rule::ListLength)?;
-        let _ = write_byte(list[0], u8::MAX, 0)?;
-        let _ = write_blanking(list[1], 1)?;
+        write_up_to(list[0], u8::MAX, 0)?;
+        write_blanking(list[1], 1)?;
         check_numbers(list, barbs)?;
         Ok(2 + BARB_BYTES * barbs)
     }
@@ -52,10 +52,7 @@ impl Kind for Winds {
     fn write(&self, list: &[i32], place: &mut [u8]) -> Result<(), FieldFault> {
         let weight = self.weigh(list)?;
         if place.len() != weight {
-            return Err(FieldFault {
-                rule: Rule::DataLength,
-                place: place.len(),
-            });
+            return Err(Rule::DataLength.at(place.len()));
         }
         put(list, place)
     }

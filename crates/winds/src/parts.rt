@@ -7,7 +7,7 @@ ghost use Rattle.std.specs.Prelude.{◌≡◌, ◌+◌, ◌*◌, ◌<◌, ◌≤
 
 use crate::barb::Barb;
 use books::faults::{FieldFault, Rule};
-use cells::codes::{read_blanking, write_blanking, write_byte};
+use cells::codes::{read_blanking, write_blanking, write_up_to};
 
 /// The bytes of a barb.
 pub(crate) const BARB_BYTES: usize = 10;
@@ -27,32 +27,31 @@ pub(crate) fn count_barbs(length: usize, each: usize, rule: Rule) -> Result<usiz
     if barbs >= 1 && barbs <= MOST_BARBS && length == 2 + barbs * each {
         Ok(barbs)
     } else {
-        Err(FieldFault {
-            rule,
-            place: length,
-        })
+        Err(rule.at(length))
     }
 }
 
 /// Checks the barbs of a data field.
 pub(crate) fn check_bytes(field: &[u8], barbs: usize) -> Result<(), FieldFault>
-    requires { length field.now ≡ 2 + barbs * 10 }
+    requires { (length field.now ≡ 2 + barbs * 10) × (barbs ≤ 409) }
     ensures { result ≡ checked (turns barbs 10 barb.reading 2 (drop 2 field.now)) }
 {
-    for k in 0..barbs {
-        let _ = Barb::read(field, 2 + BARB_BYTES * k)?;
+    let (chunks, _) = field[2..].as_chunks::<BARB_BYTES>();
+    for (k, bytes) in chunks.iter().enumerate() {
+        Barb::read(bytes, 2 + BARB_BYTES * k)?;
     }
     Ok(())
 }
 
+// Apart from `check_bytes`: a trait that tells how a barb is read from its cells would be longer than both.
 /// Checks the barbs of a list.
 pub(crate) fn check_numbers(list: &[i32], barbs: usize) -> Result<(), FieldFault>
     requires { (length list.now ≡ 2 + barbs * 6) × (barbs ≤ 409) }
     ensures { result ≡ checked (turns barbs 6 barb.writing 2 (drop 2 list.now)) }
 {
-    for k in 0..barbs {
-        let index = 2 + BARB_NUMBERS * k;
-        let _ = Barb::of(list, index).bytes(index)?;
+    let (chunks, _) = list[2..].as_chunks::<BARB_NUMBERS>();
+    for (k, numbers) in chunks.iter().enumerate() {
+        Barb::from(*numbers).bytes(2 + BARB_NUMBERS * k)?;
     }
     Ok(())
 }
@@ -66,11 +65,10 @@ pub(crate) fn number_at(field: &[u8], index: usize) -> Option<i32>
         0 => Some(i32::from(field[0])),
         1 => read_blanking(field[1], 1).ok(),
         _ => {
-            let barb = (index - 2) / BARB_NUMBERS;
-            match Barb::read(field, 2 + BARB_BYTES * barb) {
-                Ok(barb) => Some(barb.numbers()[(index - 2) % BARB_NUMBERS]),
-                Err(_) => None,
-            }
+            let (chunks, _) = field[2..].as_chunks::<BARB_BYTES>();
+            let k = (index - 2) / BARB_NUMBERS;
+            let barb = Barb::read(&chunks[k], 2 + BARB_BYTES * k).ok()?;
+            Some(barb.numbers()[(index - 2) % BARB_NUMBERS])
         }
     }
 }
@@ -81,11 +79,11 @@ pub(crate) fn put(list: &[i32], place: &mut [u8]) -> Result<(), FieldFault>
     ensures answer { result ≡ Ok tt }
     ensures after { layout_writing winds list.now ≡ Ok place.new }
 {
-    place[0] = write_byte(list[0], u8::MAX, 0)?;
+    place[0] = write_up_to(list[0], u8::MAX, 0)?;
     place[1] = write_blanking(list[1], 1)?;
-    for k in 0..(list.len() - 2) / BARB_NUMBERS {
-        let index = 2 + BARB_NUMBERS * k;
-        let bytes = Barb::of(list, index).bytes(index)?;
+    let (chunks, _) = list[2..].as_chunks::<BARB_NUMBERS>();
+    for (k, numbers) in chunks.iter().enumerate() {
+        let bytes = Barb::from(*numbers).bytes(2 + BARB_NUMBERS * k)?;
         let offset = 2 + BARB_BYTES * k;
         place[offset..offset + BARB_BYTES].copy_from_slice(&bytes);
     }

@@ -2,6 +2,7 @@ use Rattle.std.proofs.Common.{◌≡◌, ℕ, ◌+◌, ◌*◌, ◌≤◌, List,
 use Rattle.std.proofs.lemmas.List.{length-set}
 use Rattle.cells.specs.Layouts.{layout_writing}
 use Rattle.winds.specs.Winds.{winds, barb}
+use Rattle.winds.proofs.Barbs.{barb_taken}
 use Rattle.winds.proofs.Places.{ok_field, right_length, written_known, barb_bytes, put_more, put_head, put_all}
 use Rattle.winds.proofs.parts.put.Goals as goal
 
@@ -22,7 +23,8 @@ returns-in_err-bytes c =
     let f = ok_field (layout_writing winds list) _ c.requires in
     let w = written_known list f.0 f.1 in
     let b = barb_bytes list f.0 w.barbs c.loop-k.k w.count w.all (omega arith) in
-    let e = sym b ∙ ap (barb.writing at) (sym c.of.ensures) ∙ sym c.bytes.ensures ∙ c.in_err-bytes.was in
+    let t = barb_taken list c.loop-k.k c.as_chunks.result.0.now c.from.result c.as_chunks.ensures.front c.as_chunks.ensures.front_len c.loop-k-test.true c.from.ensures in
+    let e = sym b ∙ ap (barb.writing at) (sym t) ∙ sym c.bytes.ensures ∙ c.in_err-bytes.was in
     let z : ◌≡◌ {A = ℕ} 0 1 = cc in
     absurd (omega arith)
 
@@ -43,7 +45,8 @@ loop-k-preserved c = λ field h.
     let n = right_length (layout_writing winds list) field _ c.requires h in
     let s = same_length c.args.place.now c.loop-k.place c.in_ok-place.field-0 c.in_ok-place-2.field-0 (omega arith) in
     let b = barb_bytes list field w.barbs k w.count w.all (omega arith) in
-    let e = sym b ∙ ap (barb.writing (2 + 6 * k)) (sym c.of.ensures) ∙ sym c.bytes.ensures ∙ c.in_ok-bytes.was in
+    let t = barb_taken list k c.as_chunks.result.0.now c.from.result c.as_chunks.ensures.front c.as_chunks.ensures.front_len c.loop-k-test.true c.from.ensures in
+    let e = sym b ∙ ap (barb.writing (2 + 6 * k)) (sym t) ∙ sym c.bytes.ensures ∙ c.in_ok-bytes.was in
     let g : c.in_ok-bytes.bytes ≡ take 10 (drop (2 + 10 * k) field) = cc in
     put_more field c.loop-k.place _ k _ (omega arith) (omega arith) (c.copy_from_slice.ensures.after ∙ g) (c.loop-k.invariant field h)
 

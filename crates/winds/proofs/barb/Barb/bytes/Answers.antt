@@ -6,8 +6,8 @@ use Rattle.wire.specs.Pairs.{pair_bytes}
 use Rattle.winds.proofs.Barbs.{barb_writing, barb_written, barb_done}
 use Rattle.winds.proofs.barb.Barb.bytes.Goals as goal
 
-pub returns-in_err-write_pair-2 : goal.returns-in_err-write_pair-2
-returns-in_err-write_pair-2 c = let e : c.from_residual-in_err-write_pair-2.result ≡ barb_writing c.args.index c.args.self = search rules in e ∙ barb_written c.args.index c.args.self
+pub returns-in_err-write_up_to-2 : goal.returns-in_err-write_up_to-2
+returns-in_err-write_up_to-2 c = let e : c.from_residual-in_err-write_up_to-2.result ≡ barb_writing c.args.index c.args.self = search rules in e ∙ barb_written c.args.index c.args.self
 
 pub returns-in_err-gust : goal.returns-in_err-gust
 returns-in_err-gust c = let e : c.from_residual-in_err-gust.result ≡ barb_writing c.args.index c.args.self = search rules in e ∙ barb_written c.args.index c.args.self
@@ -17,10 +17,10 @@ returns-in_err-hemisphere c = let e : c.from_residual-in_err-hemisphere.result �
 
 pub returns : goal.returns
 returns c =
-    let m = c.in_ok-write_signed_pair.field-0 in
-    let n = c.in_ok-write_signed_pair-2.field-0 in
-    let d = c.in_ok-write_pair.field-0 in
-    let s = c.in_ok-write_pair-2.field-0 in
+    let m = c.in_ok-write_signed.field-0 in
+    let n = c.in_ok-write_signed-2.field-0 in
+    let d = c.in_ok-write_up_to.field-0 in
+    let s = c.in_ok-write_up_to-2.field-0 in
     let i : c.to_be_bytes.result ≡ pair_bytes m = search rules in
     let j : c.to_be_bytes-2.result ≡ pair_bytes n = search rules in
     let k : c.to_be_bytes-3.result ≡ pair_bytes d = search rules in

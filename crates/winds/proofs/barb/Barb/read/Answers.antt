@@ -1,23 +1,13 @@
-use Rattle.std.proofs.Common.{◌≡◌, ◌+◌, ◌∙◌, arith, rules}
-use Rattle.winds.proofs.Barbs.{barb_reading_at, barb_read_at}
+use Rattle.std.proofs.Common.{◌≡◌, ◌∙◌, rules}
+use Rattle.winds.proofs.Barbs.{barb_reading_of, barb_read_of}
 use Rattle.winds.proofs.barb.Barb.read.Goals as goal
 
-pub returns-in_err-direction : goal.returns-in_err-direction
-returns-in_err-direction c =
-    let e : c.from_residual.result ≡ barb_reading_at c.args.offset c.args.field.now = search rules in
-    e ∙ barb_read_at c.args.offset c.args.field.now c.requires (let t = c.type_inv.field (c.args.offset + 8) in omega arith)
-
-pub returns-in_err-speed : goal.returns-in_err-speed
-returns-in_err-speed c =
-    let e : c.from_residual-in_err-speed.result ≡ barb_reading_at c.args.offset c.args.field.now = search rules in
-    e ∙ barb_read_at c.args.offset c.args.field.now c.requires (let t = c.type_inv.field (c.args.offset + 8) in omega arith)
-
-pub returns-in_err-hemisphere : goal.returns-in_err-hemisphere
-returns-in_err-hemisphere c =
-    let e : c.from_residual-in_err-hemisphere.result ≡ barb_reading_at c.args.offset c.args.field.now = search rules in
-    e ∙ barb_read_at c.args.offset c.args.field.now c.requires (let t = c.type_inv.field (c.args.offset + 8) in omega arith)
+pub returns-in_err-read_up_to-3 : goal.returns-in_err-read_up_to-3
+returns-in_err-read_up_to-3 c =
+    let e : c.from_residual-in_err-read_up_to-3.result ≡ barb_reading_of c.args.offset c.args.bytes.now = search rules in
+    e ∙ barb_read_of c.args.offset c.args.bytes.now c.told-bytes (c.fits-bytes 8)
 
 pub returns : goal.returns
 returns c =
-    let w = barb_read_at c.args.offset c.args.field.now c.requires (let t = c.type_inv.field (c.args.offset + 8) in omega arith) in
+    let w = barb_read_of c.args.offset c.args.bytes.now c.told-bytes (c.fits-bytes 8) in
     rw (← w) (search rules)
