@@ -89,22 +89,11 @@ fn repetition(word: &str) -> anyhow::Result<(usize, &str)> {
     }
 }
 
-fn read_hex(heap: Global, hex: &str) -> anyhow::Result<Vec<u8>> {
-    if hex.len() % 2 != 0 {
-        return Err(anyhow!("half a byte"));
-    }
-    let mut bytes = Vec::new(heap);
-    for two in hex.as_bytes().chunks(2) {
-        bytes.push(u8::from_str_radix(std::str::from_utf8(two)?, 16)?)?;
-    }
-    Ok(bytes)
-}
-
 fn read_field(heap: Global, words: &[&str]) -> anyhow::Result<Vec<u8>> {
     let mut field = Vec::new(heap);
     for word in words {
-        let (times, hex) = repetition(word)?;
-        let bytes = read_hex(heap, hex)?.repeat(heap, times)?;
+        let (times, digits) = repetition(word)?;
+        let bytes = hex::decode(heap, digits)?.repeat(heap, times)?;
         field.extend_from_slice(&bytes)?;
     }
     Ok(field)
@@ -143,10 +132,21 @@ fn read_question(heap: Global, words: &[&str]) -> anyhow::Result<Question> {
     }
 }
 
-fn counted(told: Result<usize, FieldFault>) -> Answer {
-    match told {
-        Ok(count) => Answer::Count(count),
-        Err(fault) => Answer::Fault(fault),
+impl From<Result<usize, FieldFault>> for Answer {
+    fn from(told: Result<usize, FieldFault>) -> Answer {
+        match told {
+            Ok(count) => Answer::Count(count),
+            Err(fault) => Answer::Fault(fault),
+        }
+    }
+}
+
+impl From<Option<i32>> for Answer {
+    fn from(told: Option<i32>) -> Answer {
+        match told {
+            Some(number) => Answer::Number(number),
+            None => Answer::Absent,
+        }
     }
 }
 
@@ -161,12 +161,9 @@ fn write<B: Book>(book: &B, at: Block, list: &[i32], mut place: Vec<u8>) -> Answ
 fn ask<B: Book>(heap: Global, book: &B, at: Block, question: &Question) -> anyhow::Result<Answer> {
     let Block { mode, submode } = at;
     match question {
-        Question::Judge(field) => Ok(counted(book.judge(mode, submode, field))),
-        Question::Number(index, field) => match book.number(mode, submode, field, *index) {
-            Some(number) => Ok(Answer::Number(number)),
-            None => Ok(Answer::Absent),
-        },
-        Question::Weigh(list) => Ok(counted(book.weigh(mode, submode, list))),
+        Question::Judge(field) => Ok(book.judge(mode, submode, field).into()),
+        Question::Number(index, field) => Ok(book.number(mode, submode, field, *index).into()),
+        Question::Weigh(list) => Ok(book.weigh(mode, submode, list).into()),
         Question::Write(size, list) => {
             let place = vec![in heap; BLANK; *size]?;
             Ok(write(book, at, list, place))

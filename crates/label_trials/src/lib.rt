@@ -12,10 +12,6 @@ mod tests {
     // One more than a length that is too long.
     const MOST: usize = 4_095;
 
-    const fn fault(rule: Rule, place: usize) -> FieldFault {
-        FieldFault { rule, place }
-    }
-
     #[test]
     fn labels_have_mode_5_and_submode_1(rt: HostRuntime) {
         let mode: Byte<5> = Labels::MODE;
@@ -24,39 +20,45 @@ mod tests {
         assert_eq!(rt; submode.get(), 1);
     }
 
+    // Puts two bytes or numbers at their places.
+    fn put_two<T: Copy>(rt: &impl Abort, cells: &mut [T], first: (usize, T), second: (usize, T)) {
+        assert!(rt; first.0 < cells.len() && second.0 < cells.len());
+        cells[first.0] = first.1;
+        cells[second.0] = second.1;
+    }
+
     // A field of zeros in which two bytes are put.
     #[test]
     fn judge_tells_the_length_and_then_the_first_byte(rt: HostRuntime) {
         let cases = [
-            (6, (7, 128), (0, 0), Err(fault(Rule::DataLength, 6))),
-            (7, (7, 128), (0, 0), Err(fault(Rule::DataLength, 7))),
+            (6, (7, 128), (0, 0), Err(Rule::DataLength.at(6))),
+            (7, (7, 128), (0, 0), Err(Rule::DataLength.at(7))),
             (8, (7, 127), (6, 255), Ok(8)),
-            (9, (7, 128), (0, 0), Err(fault(Rule::DataLength, 9))),
+            (9, (7, 128), (0, 0), Err(Rule::DataLength.at(9))),
             (10, (0, 255), (5, 255), Ok(10)),
             (4_092, (7, 127), (4_091, 127), Ok(4_092)),
-            (4_094, (7, 128), (0, 0), Err(fault(Rule::DataLength, 4_094))),
-            (8, (7, 128), (6, 255), Err(fault(Rule::ByteRange, 7))),
-            (10, (8, 128), (7, 127), Err(fault(Rule::ByteRange, 8))),
-            (10, (9, 255), (10, 255), Err(fault(Rule::ByteRange, 9))),
+            (4_094, (7, 128), (0, 0), Err(Rule::DataLength.at(4_094))),
+            (8, (7, 128), (6, 255), Err(Rule::ByteRange.at(7))),
+            (10, (8, 128), (7, 127), Err(Rule::ByteRange.at(8))),
+            (10, (9, 255), (10, 255), Err(Rule::ByteRange.at(9))),
             (10, (10, 255), (11, 255), Ok(10)),
             (
                 4_092,
                 (2_000, 128),
                 (4_091, 128),
-                Err(fault(Rule::ByteRange, 2_000)),
+                Err(Rule::ByteRange.at(2_000)),
             ),
             (
                 4_092,
                 (4_091, 128),
                 (4_090, 127),
-                Err(fault(Rule::ByteRange, 4_091)),
+                Err(Rule::ByteRange.at(4_091)),
             ),
         ];
         for (length, first, second, want) in &cases {
             let mut field = [0; MOST];
-            assert!(rt; *length <= MOST && first.0 < MOST && second.0 < MOST);
-            field[first.0] = first.1;
-            field[second.0] = second.1;
+            put_two(&rt, &mut field, *first, *second);
+            assert!(rt; *length <= MOST);
             assert_eq!(rt; Labels.judge(&field[0..*length]), *want);
         }
     }
@@ -91,27 +93,21 @@ mod tests {
     #[test]
     fn weigh_tells_the_length_and_then_the_first_number(rt: HostRuntime) {
         let cases = [
-            (6, (0, 32_768), (1, 0), Err(fault(Rule::ListLength, 6))),
-            (7, (0, 32_768), (1, 0), Err(fault(Rule::ListLength, 7))),
+            (6, (0, 32_768), (1, 0), Err(Rule::ListLength.at(6))),
+            (7, (0, 32_768), (1, 0), Err(Rule::ListLength.at(7))),
             (8, (0, 32_767), (1, -32_768), Ok(8)),
-            (9, (0, 32_768), (1, 0), Err(fault(Rule::ListLength, 9))),
+            (9, (0, 32_768), (1, 0), Err(Rule::ListLength.at(9))),
             (10, (2, -128), (3, 127), Ok(10)),
             (4_092, (7, 127), (4_091, 127), Ok(4_092)),
-            (
-                4_094,
-                (0, 32_768),
-                (1, 0),
-                Err(fault(Rule::ListLength, 4_094)),
-            ),
+            (4_094, (0, 32_768), (1, 0), Err(Rule::ListLength.at(4_094))),
             (8, (4, 1), (5, 1), Ok(8)),
             (8, (6, 63), (7, 127), Ok(8)),
             (8, (8, -1), (9, 128), Ok(8)),
         ];
         for (length, first, second, want) in &cases {
             let mut list = [0; MOST];
-            assert!(rt; *length <= MOST && first.0 < MOST && second.0 < MOST);
-            list[first.0] = first.1;
-            list[second.0] = second.1;
+            put_two(&rt, &mut list, *first, *second);
+            assert!(rt; *length <= MOST);
             assert_eq!(rt; Labels.weigh(&list[0..*length]), *want);
         }
     }
@@ -142,10 +138,8 @@ mod tests {
         ];
         for (first, second) in &cases {
             let mut list = [0; 4_092];
-            assert!(rt; first.0 < 4_092 && second.0 < 4_092);
-            list[first.0] = first.1;
-            list[second.0] = second.1;
-            assert_eq!(rt; Labels.weigh(&list), Err(fault(Rule::NumberRange, first.0)));
+            put_two(&rt, &mut list, *first, *second);
+            assert_eq!(rt; Labels.weigh(&list), Err(Rule::NumberRange.at(first.0)));
         }
     }
 
@@ -164,9 +158,9 @@ mod tests {
 
     #[test]
     fn write_fills_a_place_of_its_weight_alone(rt: HostRuntime) {
-        let short = Err(fault(Rule::DataLength, 8));
-        let long = Err(fault(Rule::DataLength, 12));
-        let range = Err(fault(Rule::NumberRange, 9));
+        let short = Err(Rule::DataLength.at(8));
+        let long = Err(Rule::DataLength.at(12));
+        let range = Err(Rule::NumberRange.at(9));
         write_case(
             &rt,
             127,

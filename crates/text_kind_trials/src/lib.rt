@@ -18,10 +18,6 @@ mod tests {
     // A broken rule in a data field, and its place; none for a text without a fault.
     type Want = Option<(Rule, usize)>;
 
-    const fn fault(rule: Rule, place: usize) -> FieldFault {
-        FieldFault { rule, place }
-    }
-
     // The rule of a list that answers to one of a data field.
     fn in_list(rule: Rule) -> Rule {
         match rule {
@@ -40,9 +36,9 @@ mod tests {
     ) -> Result<(), Fail> {
         match want {
             Some((rule, place)) => {
-                assert_eq!(rt; kind.judge(field), Err(fault(rule, place)));
+                assert_eq!(rt; kind.judge(field), Err(rule.at(place)));
                 assert_eq!(rt; kind.number(field, 0), None);
-                assert_eq!(rt; kind.weigh(list), Err(fault(in_list(rule), place)));
+                assert_eq!(rt; kind.weigh(list), Err(in_list(rule).at(place)));
                 Ok(())
             }
             None => {
@@ -55,10 +51,7 @@ mod tests {
 
     // What is no byte stands as 255.
     fn byte(number: i32) -> u8 {
-        match number {
-            0..=255 => number as u8,
-            _ => 255,
-        }
+        u8::try_from(number).unwrap_or(255)
     }
 
     fn check_rows<K: Kind>(
@@ -67,8 +60,7 @@ mod tests {
         rows: &[([i32; 4], Want)],
     ) -> Result<(), Fail> {
         for (list, want) in rows {
-            let field = [byte(list[0]), byte(list[1]), byte(list[2]), byte(list[3])];
-            check_answers(rt, kind, &field, list, *want)?;
+            check_answers(rt, kind, &list.map(byte), list, *want)?;
         }
         Ok(())
     }
@@ -242,10 +234,10 @@ mod tests {
     #[test]
     fn write_fills_a_place_of_its_weight_alone(rt: HostRuntime) {
         let list = [65, 30, 127, 3];
-        let short = Err(fault(Rule::DataLength, 2));
-        let long = Err(fault(Rule::DataLength, 6));
-        let none = Err(fault(Rule::ListLength, 0));
-        let end = Err(fault(Rule::WrongEnd, 1));
+        let short = Err(Rule::DataLength.at(2));
+        let long = Err(Rule::DataLength.at(6));
+        let none = Err(Rule::ListLength.at(0));
+        let end = Err(Rule::WrongEnd.at(1));
         check_write(&rt, &list, &mut [9; 4], Ok(()), &[65, 30, 127, 3]);
         check_write(&rt, &list, &mut [9; 2], short, &[9; 2]);
         check_write(&rt, &list, &mut [9; 6], long, &[9; 6]);
@@ -254,7 +246,7 @@ mod tests {
             &rt,
             &[3, 65],
             &mut [9; 2],
-            Err(fault(Rule::EarlyEnd, 0)),
+            Err(Rule::EarlyEnd.at(0)),
             &[9; 2],
         );
         check_write(&rt, &[65, 65], &mut [9; 4], end, &[9; 4]);

@@ -4,8 +4,8 @@
 #[cfg(test)]
 mod tests {
     use books::faults::{FieldFault, Rule};
-    use cells::codes::{read_flags, write_flags, write_signed_byte, write_signed_pair};
-    use cells::signs::{signed_byte, signed_pair};
+    use cells::cell::Cell;
+    use cells::codes::{read_flags, write_flags, write_signed};
     use kinds::kind::Kind;
     use std::process::Abort;
     use winds::kind::Winds;
@@ -18,10 +18,6 @@ mod tests {
     const LIST: [i32; 14] = [
         7, 1, -1, -32_768, 360, 25, 1, 0, 32_767, 1, 0, 32_767, 255, 1,
     ];
-
-    const fn fault(rule: Rule, place: usize) -> FieldFault {
-        FieldFault { rule, place }
-    }
 
     #[test]
     fn judge_goes_by_the_length_first(rt: HostRuntime) {
@@ -50,7 +46,7 @@ mod tests {
             assert!(rt; *length <= bytes.len());
             assert_eq!(rt;
                 Winds.judge(&bytes[0..*length]),
-                Err(fault(Rule::DataLength, *length))
+                Err(Rule::DataLength.at(*length))
             );
         }
     }
@@ -87,7 +83,7 @@ mod tests {
             assert_eq!(rt;
                 Winds.judge(&field),
                 match want {
-                    Some(place) => Err(fault(Rule::ByteRange, *place)),
+                    Some(place) => Err(Rule::ByteRange.at(*place)),
                     None => Ok(2_456),
                 }
             );
@@ -120,7 +116,7 @@ mod tests {
             assert!(rt; *length <= list.len());
             assert_eq!(rt;
                 Winds.weigh(&list[0..*length]),
-                Err(fault(Rule::ListLength, *length))
+                Err(Rule::ListLength.at(*length))
             );
         }
     }
@@ -162,7 +158,7 @@ mod tests {
         let ranges = RANGES;
         for (index, least, most) in &ranges {
             assert!(rt; *least > -40_000 && *most < 40_000);
-            let wrong = Err(fault(Rule::NumberRange, *index));
+            let wrong = Err(Rule::NumberRange.at(*index));
             weigh_case(&rt, (*index, *least), (0, 0), Ok(4_092));
             weigh_case(&rt, (*index, *most), (0, 0), Ok(4_092));
             weigh_case(&rt, (*index, *least - 1), (0, 0), wrong);
@@ -185,7 +181,7 @@ mod tests {
             (7, 8),
         ];
         for (first, second) in &pairs {
-            let wrong = Err(fault(Rule::NumberRange, *first));
+            let wrong = Err(Rule::NumberRange.at(*first));
             weigh_case(&rt, (*first, 40_000), (*second, -40_000), wrong);
             weigh_case(&rt, (*second, 40_000), (*first, -40_000), wrong);
         }
@@ -208,32 +204,14 @@ mod tests {
     #[test]
     fn write_fills_a_place_of_its_weight_alone(rt: HostRuntime) {
         write_case(&rt, 0, &mut [9; 22], Ok(()), &FIELD);
-        write_case(
-            &rt,
-            0,
-            &mut [9; 12],
-            Err(fault(Rule::DataLength, 12)),
-            &[9; 12],
-        );
-        write_case(
-            &rt,
-            0,
-            &mut [9; 32],
-            Err(fault(Rule::DataLength, 32)),
-            &[9; 32],
-        );
-        write_case(
-            &rt,
-            2,
-            &mut [9; 22],
-            Err(fault(Rule::NumberRange, 7)),
-            &[9; 22],
-        );
+        write_case(&rt, 0, &mut [9; 12], Err(Rule::DataLength.at(12)), &[9; 12]);
+        write_case(&rt, 0, &mut [9; 32], Err(Rule::DataLength.at(32)), &[9; 32]);
+        write_case(&rt, 2, &mut [9; 22], Err(Rule::NumberRange.at(7)), &[9; 22]);
         write_case(
             &rt,
             -1,
             &mut [9; 12],
-            Err(fault(Rule::NumberRange, 7)),
+            Err(Rule::NumberRange.at(7)),
             &[9; 12],
         );
     }
@@ -246,23 +224,18 @@ mod tests {
             (0, 0, 0),
             (127, 255, 32_767),
         ] {
-            assert_eq!(rt; signed_pair(*left, *right), *number);
-            assert_eq!(rt;
-                write_signed_pair(*number, 0),
-                Ok(u16::from_be_bytes([*left, *right]))
-            );
+            let pair = u16::from_be_bytes([*left, *right]);
+            assert_eq!(rt; pair.signed(), *number);
+            assert_eq!(rt; write_signed(*number, 0), Ok(pair));
         }
-        for (byte, number) in &[(128, -128), (255, -1), (0, 0), (127, 127)] {
-            assert_eq!(rt; signed_byte(*byte), *number);
-            assert_eq!(rt; write_signed_byte(*number, 0), Ok(*byte));
+        for (byte, number) in &[(128_u8, -128), (255, -1), (0, 0), (127, 127)] {
+            assert_eq!(rt; byte.signed(), *number);
+            assert_eq!(rt; write_signed(*number, 0), Ok(*byte));
         }
-        assert_eq!(rt; write_signed_byte(128, 3), Err(fault(Rule::NumberRange, 3)));
-        assert_eq!(rt;
-            write_signed_byte(-129, 3),
-            Err(fault(Rule::NumberRange, 3))
-        );
+        assert_eq!(rt; write_signed::<u8>(128, 3), Err(Rule::NumberRange.at(3)));
+        assert_eq!(rt; write_signed::<u8>(-129, 3), Err(Rule::NumberRange.at(3)));
         assert_eq!(rt; read_flags(0o352), [1, 1, 42]);
         assert_eq!(rt; write_flags(0, 1, 63, 0), Ok(127));
-        assert_eq!(rt; write_flags(1, 0, 64, 4), Err(fault(Rule::NumberRange, 6)));
+        assert_eq!(rt; write_flags(1, 0, 64, 4), Err(Rule::NumberRange.at(6)));
     }
 }
