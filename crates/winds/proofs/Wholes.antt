@@ -1,5 +1,5 @@
 -- A whole data field or list: its length first, then its head, then its barbs.
-use Rattle.std.proofs.Common.{◌≡◌, ℕ, ◌+◌, ◌*◌, ◌<◌, ◌≤◌, true, leb, List, [], ◌∷◌, ◌++◌, length, get_or, take, drop, ℤ, pos, Ok, Err, Result, sym, refl, ap, ◌∙◌, arith}
+use Rattle.std.proofs.Common.{◌≡◌, ℕ, ◌+◌, ◌-◌, ◌*◌, ◌/◌, ◌<◌, ◌≤◌, true, leb, List, [], ◌∷◌, ◌++◌, length, get_or, take, drop, ℤ, pos, Ok, Err, Result, sym, refl, ap, ◌∙◌, arith}
 use Rattle.std.proofs.lemmas.Bool.{le-leb}
 use Rattle.wire.specs.Steps.{◌>>=◌}
 use Rattle.books.specs.declared.faults.Rule.TheVariants.{DataLength, ListLength, NumberRange, ByteRange}
@@ -49,7 +49,7 @@ head_written (x ∷ y ∷ list) l = go (or_fault NumberRange 0 ((upto 255).worth
 abbrev judging : ℕ → List ℕ → Result ℕ FieldFault
 judging k field = do
   _ ← or_fault ByteRange 1 (bit_seven.number (get_or field 1 0))
-  _ ← checked (turns k 10 barb.reading 2 (drop 2 field))
+  _ ← checked (turns ((length field - 2) / 10) 10 barb.reading 2 (drop 2 field))
   Ok (2 + 6 * k)
 
 abbrev pub field_checks : List ℕ → Result ℕ FieldFault
@@ -57,10 +57,11 @@ field_checks field = or_fault DataLength (length field) (fitted winds.many 2 10 
 
 judging_whole : (k : ℕ) (field : List ℕ) → length field ≡ 2 + k * 10 → get_or field 0 0 < 256 → judging k field ≡ judged ((whole winds k).reading 0 field)
 judging_whole k field l b =
+    let q : (length field - 2) / 10 ≡ k = omega arith in
     let s = whole_sound winds head_sound barb_sound k in
     let j = judged_checked ((whole winds k).reading 0 field) (2 + 6 * k) (λ list h. let n = s.counted 0 field list l h in omega arith) in
     let c = checked_turn 2 winds.head.reading (turns k 10 barb.reading) 0 field in
-    go (or_fault ByteRange 1 (bit_seven.number (get_or field 1 0))) _ ∙ ap (λ r. (r >>= λ _. checked (turns k 10 barb.reading 2 (drop 2 field))) >>= λ _. Ok (2 + 6 * k)) (sym (head_read field (omega arith) b)) ∙ ap (λ r. r >>= λ _. Ok (2 + 6 * k)) (sym c) ∙ j
+    rw q (go (or_fault ByteRange 1 (bit_seven.number (get_or field 1 0))) _ ∙ ap (λ r. (r >>= λ _. checked (turns k 10 barb.reading 2 (drop 2 field))) >>= λ _. Ok (2 + 6 * k)) (sym (head_read field (omega arith) b)) ∙ ap (λ r. r >>= λ _. Ok (2 + 6 * k)) (sym c) ∙ j)
   where
     go : (r : Result ℤ FieldFault) (t : Result (Unit {0}) FieldFault) → (r >>= λ _. t >>= λ _. Ok (2 + 6 * k)) ≡ (((r >>= λ _. passes) >>= λ _. t) >>= λ _. Ok (2 + 6 * k))
     go (Ok z) t = refl
@@ -78,7 +79,7 @@ abbrev weighing : ℕ → List ℤ → Result ℕ FieldFault
 weighing k list = do
   _ ← or_fault NumberRange 0 ((upto 255).worth (get_or list 0 (pos 0)))
   _ ← or_fault NumberRange 1 (bit_seven.worth (get_or list 1 (pos 0)))
-  _ ← checked (turns k 6 barb.writing 2 (drop 2 list))
+  _ ← checked (turns ((length list - 2) / 6) 6 barb.writing 2 (drop 2 list))
   Ok (2 + 10 * k)
 
 abbrev pub list_checks : List ℤ → Result ℕ FieldFault
@@ -86,10 +87,11 @@ list_checks list = or_fault ListLength (length list) (fitted winds.many 2 6 (len
 
 weighing_whole : (k : ℕ) (list : List ℤ) → length list ≡ 2 + k * 6 → weighing k list ≡ weighed ((whole winds k).writing 0 list)
 weighing_whole k list l =
+    let q : (length list - 2) / 6 ≡ k = omega arith in
     let s = whole_sound winds head_sound barb_sound k in
     let j = weighed_checked ((whole winds k).writing 0 list) (2 + 10 * k) (λ field h. let n = (s.written 0 list field l h).0 in omega arith) in
     let c = checked_turn 2 winds.head.writing (turns k 6 barb.writing) 0 list in
-    go (or_fault NumberRange 0 ((upto 255).worth (get_or list 0 (pos 0)))) (or_fault NumberRange 1 (bit_seven.worth (get_or list 1 (pos 0)))) _ ∙ ap (λ r. (r >>= λ _. checked (turns k 6 barb.writing 2 (drop 2 list))) >>= λ _. Ok (2 + 10 * k)) (sym (head_written list (omega arith))) ∙ ap (λ r. r >>= λ _. Ok (2 + 10 * k)) (sym c) ∙ j
+    rw q (go (or_fault NumberRange 0 ((upto 255).worth (get_or list 0 (pos 0)))) (or_fault NumberRange 1 (bit_seven.worth (get_or list 1 (pos 0)))) _ ∙ ap (λ r. (r >>= λ _. checked (turns k 6 barb.writing 2 (drop 2 list))) >>= λ _. Ok (2 + 10 * k)) (sym (head_written list (omega arith))) ∙ ap (λ r. r >>= λ _. Ok (2 + 10 * k)) (sym c) ∙ j)
   where
     go : (r s : Result ℕ FieldFault) (t : Result (Unit {0}) FieldFault) → (r >>= λ _. s >>= λ _. t >>= λ _. Ok (2 + 10 * k)) ≡ (((r >>= λ _. s >>= λ _. passes) >>= λ _. t) >>= λ _. Ok (2 + 10 * k))
     go (Ok n) (Ok m) t = refl

@@ -30,7 +30,7 @@ impl Kind for Winds {
     fn judge(&self, field: &[u8]) -> Result<usize, FieldFault> {
         let barbs = count_barbs(field.len(), BARB_BYTES, Rule::DataLength)?;
         read_blanking(field[1], 1)?;
-        check_bytes(field, barbs)?;
+        check_bytes(field)?;
         Ok(2 + BARB_NUMBERS * barbs)
     }
 
@@ -45,7 +45,7 @@ impl Kind for Winds {
         let barbs = count_barbs(list.len(), BARB_NUMBERS, Rule::ListLength)?;
         write_up_to(list[0], u8::MAX, 0)?;
         write_blanking(list[1], 1)?;
-        check_numbers(list, barbs)?;
+        check_numbers(list)?;
         Ok(2 + BARB_BYTES * barbs)
     }
 

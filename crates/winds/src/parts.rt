@@ -3,7 +3,7 @@ ghost use Rattle.winds.specs.Winds.{barb, winds};
 ghost use Rattle.cells.specs.Cells.{or_fault, turns, checked};
 ghost use Rattle.cells.specs.Layouts.{fitted, layout_reading, layout_writing};
 ghost use Rattle.books.specs.Books.{judged, weighed, number_at};
-ghost use Rattle.std.specs.Prelude.{◌≡◌, ◌+◌, ◌*◌, ◌<◌, ◌≤◌, true, length, drop, is_ok, IfOk, Ok};
+ghost use Rattle.std.specs.Prelude.{◌≡◌, ◌-◌, ◌/◌, ◌<◌, ◌≤◌, true, length, drop, is_ok, IfOk, Ok};
 
 use crate::barb::Barb;
 use books::faults::{FieldFault, Rule};
@@ -32,9 +32,9 @@ pub(crate) fn count_barbs(length: usize, each: usize, rule: Rule) -> Result<usiz
 }
 
 /// Checks the barbs of a data field.
-pub(crate) fn check_bytes(field: &[u8], barbs: usize) -> Result<(), FieldFault>
-    requires { (length field.now ≡ 2 + barbs * 10) × (barbs ≤ 409) }
-    ensures { result ≡ checked (turns barbs 10 barb.reading 2 (drop 2 field.now)) }
+pub(crate) fn check_bytes(field: &[u8]) -> Result<(), FieldFault>
+    requires { (2 ≤ length field.now) × (length field.now ≤ 4092) }
+    ensures { result ≡ checked (turns ((length field.now - 2) / 10) 10 barb.reading 2 (drop 2 field.now)) }
 {
     let (chunks, _) = field[2..].as_chunks::<BARB_BYTES>();
     for (k, bytes) in chunks.iter().enumerate() {
@@ -45,9 +45,9 @@ pub(crate) fn check_bytes(field: &[u8], barbs: usize) -> Result<(), FieldFault>
 
 // Apart from `check_bytes`: a trait that tells how a barb is read from its cells would be longer than both.
 /// Checks the barbs of a list.
-pub(crate) fn check_numbers(list: &[i32], barbs: usize) -> Result<(), FieldFault>
-    requires { (length list.now ≡ 2 + barbs * 6) × (barbs ≤ 409) }
-    ensures { result ≡ checked (turns barbs 6 barb.writing 2 (drop 2 list.now)) }
+pub(crate) fn check_numbers(list: &[i32]) -> Result<(), FieldFault>
+    requires { (2 ≤ length list.now) × (length list.now ≤ 2456) }
+    ensures { result ≡ checked (turns ((length list.now - 2) / 6) 6 barb.writing 2 (drop 2 list.now)) }
 {
     let (chunks, _) = list[2..].as_chunks::<BARB_NUMBERS>();
     for (k, numbers) in chunks.iter().enumerate() {
@@ -82,6 +82,7 @@ pub(crate) fn put(list: &[i32], place: &mut [u8]) -> Result<(), FieldFault>
     place[0] = write_up_to(list[0], u8::MAX, 0)?;
     place[1] = write_blanking(list[1], 1)?;
     let (chunks, _) = list[2..].as_chunks::<BARB_NUMBERS>();
+    // By offset: after a `zip` with `chunks_exact_mut` a proof knows nothing of the place.
     for (k, numbers) in chunks.iter().enumerate() {
         let bytes = Barb::from(*numbers).bytes(2 + BARB_NUMBERS * k)?;
         let offset = 2 + BARB_BYTES * k;
