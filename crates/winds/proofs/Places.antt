@@ -1,10 +1,11 @@
 -- The number at an index, and the barbs of a list at their places.
-use Rattle.std.proofs.Common.{◌≡◌, ℕ, ◌+◌, ◌-◌, ◌*◌, ◌/◌, ◌%◌, ◌<◌, ◌≤◌, true, List, [], ◌∷◌, ◌++◌, length, get_or, take, drop, set, ℤ, pos, is_ok, IfOk, Some, None, Ok, Err, Result, sym, refl, ap, ◌∙◌, arith, take-add}
+use Rattle.std.proofs.Common.{◌≡◌, ℕ, ◌+◌, ◌-◌, ◌*◌, ◌/◌, ◌%◌, ◌<◌, ◌≤◌, true, List, [], ◌∷◌, ◌++◌, length, get_or, take, drop, set, ℤ, pos, is_ok, Some, None, Ok, Err, Result, sym, refl, ap, ◌∙◌, arith, take-add}
 use borrow.Rule.Slice.PartMut.{put_mid}
 use Rattle.std.proofs.lemmas.List.{get_or-take, get_or-drop, length-drop, length-take-le, take_at, take_all}
 use Rattle.std.proofs.lemmas.Option.{slice_get-get_or, slice_get_past}
 use Rattle.std.proofs.lemmas.Slice.{take-put_mid}
 use Rattle.std.specs.List.{slice_get}
+use Rattle.std.specs.Simd.{first_chunks}
 use Rattle.books.specs.declared.faults.Rule.TheVariants.{NumberRange}
 use Rattle.books.specs.declared.faults.FieldFault.{FieldFault}
 use Rattle.books.specs.Books.{Reading, Writing, judged, weighed, number_at}
@@ -16,33 +17,28 @@ use Rattle.cells.proofs.Turning.{part_of}
 use Rattle.winds.specs.declared.barb.Barb.{Barb}
 use Rattle.winds.specs.Winds.{barb, winds, barb_numbers, barb_of, barb_read}
 use Rattle.winds.specs.WindLaws.{head_sound, barb_sound, few_barbs}
-use Rattle.winds.proofs.Barbs.{six}
+use Rattle.winds.proofs.Barbs.{chunk_of, six}
 
 -- ---- what an accepted field is, and the number at an index
-pub record Read (field : List ℕ) (index : ℕ) : Type 0 where
+pub record Read (field : List ℕ) : Type 0 where
   pub barbs : ℕ
   pub list : List ℤ
+  pub few : barbs ≤ 409
   pub size : length field ≡ 2 + barbs * 10
   pub count : length list ≡ 2 + barbs * 6
-  pub below : index < length list
   pub is : layout_reading winds field ≡ Ok list
-  pub few : barbs ≤ 409
   pub all : (whole winds barbs).reading 0 field ≡ Ok list
 
-ok_list : (r : Reading) (index : ℕ) → is_ok (judged r) ≡ true → IfOk (judged r) (λ n. index < n) → (list : List ℤ) × (r ≡ Ok list) × (index < length list)
-ok_list (Ok list) index h l = (list, refl, l)
-ok_list (Err f) index h l = let z : ◌≡◌ {A = ℕ} 0 1 = cc in absurd (omega arith)
+ok_list : (r : Reading) → is_ok (judged r) ≡ true → (list : List ℤ) × (r ≡ Ok list)
+ok_list (Ok list) h = (list, refl)
+ok_list (Err f) h = let z : ◌≡◌ {A = ℕ} 0 1 = cc in absurd (omega arith)
 
-pub read_known : (field : List ℕ) (index : ℕ) → is_ok (judged (layout_reading winds field)) ≡ true → IfOk (judged (layout_reading winds field)) (λ n. index < n) → Read field index
-read_known field index h l =
-    let k = ok_list (layout_reading winds field) index h l in
+pub read_known : (field : List ℕ) → is_ok (judged (layout_reading winds field)) ≡ true → Read field
+read_known field h =
+    let k = ok_list (layout_reading winds field) h in
     let p = layout_read winds field k.0 k.1 in
     let n = (whole_sound winds head_sound barb_sound p.0).counted 0 field k.0 p.1 p.3 in
-    record { barbs = p.0; list = k.0; few = (few_barbs p.0 p.2).1; size = p.1; count = n; below = k.2; is = k.1; all = p.3 }
-
-pub past : (r : Reading) (a : Result ℕ FieldFault) (count index : ℕ) → a ≡ judged r → a ≡ Ok count → count ≤ index → None ≡ number_at r index
-past (Ok list) a count index e h l = let n : length list ≡ count = cc in sym (slice_get_past list index (omega arith))
-past (Err f) a count index e h l = refl
+    record { barbs = p.0; list = k.0; few = (few_barbs p.0 p.2).1; size = p.1; count = n; is = k.1; all = p.3 }
 
 -- the barb at i
 pub barb_at : (field : List ℕ) (list : List ℤ) (k i : ℕ) → length field ≡ 2 + k * 10 → (whole winds k).reading 0 field ≡ Ok list → i < k → barb_read (2 + 10 * i) (take 10 (drop (2 + 10 * i) field)) ≡ Ok (barb_of (take 6 (drop (2 + 6 * i) list)))
@@ -53,6 +49,18 @@ barb_at field list k i l h lt =
 -- the chunks of an accepted field are its barbs, and each reads as one
 pub chunk_count : (field : List ℕ) (k n : ℕ) → length field ≡ 2 + k * 10 → n ≡ length (take (length field - 2) (drop 2 field)) / 10 → n ≡ k
 chunk_count field k n l e = let t = ap length (take_all (length field - 2) (drop 2 field) (omega (arith, length-drop 2 field))) in omega (arith, length-drop 2 field)
+
+pub chunk_read : (field : List ℕ) (r : Read field) (chunks : List (List ℕ)) (bytes : List ℕ) (i : ℕ) → chunks ≡ first_chunks 10 (length (take (length field - 2) (drop 2 field)) / 10) (take (length field - 2) (drop 2 field)) → length chunks ≡ length (take (length field - 2) (drop 2 field)) / 10 → i < length chunks → bytes ≡ get_or chunks i bytes → barb_read (2 + 10 * i) bytes ≡ Ok (barb_of (take 6 (drop (2 + 6 * i) r.list)))
+chunk_read field r chunks bytes i e l h b =
+    let n = chunk_count field r.barbs _ r.size l in
+    let p = b ∙ chunk_of 10 2 i field chunks bytes e l h in
+    ap (barb_read (2 + 10 * i)) p ∙ barb_at field r.list r.barbs i r.size r.all (omega arith)
+
+pub number_past : (field : List ℕ) (r : Read field) (index n : ℕ) → 2 ≤ index → n ≡ length (take (length field - 2) (drop 2 field)) / 10 → n ≤ (index - 2) / 6 → None ≡ number_at (layout_reading winds field) index
+number_past field r index n two e l =
+    let k = chunk_count field r.barbs n r.size e in
+    let c = r.count in
+    sym (ap (λ t. number_at t index) r.is ∙ slice_get_past r.list index (omega arith))
 
 pub number_in : (list : List ℤ) (k index : ℕ) (b : Barb) → length list ≡ 2 + k * 6 → 2 ≤ index → index < length list → barb_of (take 6 (drop (2 + 6 * ((index - 2) / 6)) list)) ≡ b → Some (get_or (barb_numbers b) ((index - 2) % 6) (pos 0)) ≡ slice_get list index
 number_in list k index b n two l e =

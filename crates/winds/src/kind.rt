@@ -35,10 +35,8 @@ impl Kind for Winds {
     }
 
     fn number(&self, field: &[u8], index: usize) -> Option<i32> {
-        match self.judge(field) {
-            Ok(count) if index < count => number_at(field, index),
-            _ => None,
-        }
+        self.judge(field).ok()?;
+        number_at(field, index)
     }
 
     fn weigh(&self, list: &[i32]) -> Result<usize, FieldFault> {

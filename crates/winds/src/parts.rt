@@ -3,7 +3,7 @@ ghost use Rattle.winds.specs.Winds.{barb, winds};
 ghost use Rattle.cells.specs.Cells.{or_fault, turns, checked};
 ghost use Rattle.cells.specs.Layouts.{fitted, layout_reading, layout_writing};
 ghost use Rattle.books.specs.Books.{judged, weighed, number_at};
-ghost use Rattle.std.specs.Prelude.{◌≡◌, ◌-◌, ◌/◌, ◌<◌, ◌≤◌, true, length, drop, is_ok, IfOk, Ok};
+ghost use Rattle.std.specs.Prelude.{◌≡◌, ◌-◌, ◌/◌, ◌<◌, ◌≤◌, true, length, drop, is_ok, Ok};
 
 use crate::barb::Barb;
 use books::faults::{FieldFault, Rule};
@@ -58,7 +58,7 @@ pub(crate) fn check_numbers(list: &[i32]) -> Result<(), FieldFault>
 
 /// The number at an index of a data field without a fault.
 pub(crate) fn number_at(field: &[u8], index: usize) -> Option<i32>
-    requires { (is_ok (judged (layout_reading winds field.now)) ≡ true) × (IfOk (judged (layout_reading winds field.now)) (λ count. index < count)) }
+    requires { is_ok (judged (layout_reading winds field.now)) ≡ true }
     ensures { result ≡ number_at (layout_reading winds field.now) index }
 {
     match index {
@@ -67,7 +67,7 @@ pub(crate) fn number_at(field: &[u8], index: usize) -> Option<i32>
         _ => {
             let (chunks, _) = field[2..].as_chunks::<BARB_BYTES>();
             let k = (index - 2) / BARB_NUMBERS;
-            let barb = Barb::read(&chunks[k], 2 + BARB_BYTES * k).ok()?;
+            let barb = Barb::read(chunks.get(k)?, 2 + BARB_BYTES * k).ok()?;
             Some(barb.numbers()[(index - 2) % BARB_NUMBERS])
         }
     }
