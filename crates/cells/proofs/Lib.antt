@@ -1,2 +1,4 @@
+pub mod Counting
+pub mod Flattening
 pub mod Putting
 pub mod Turning

@@ -1,31 +1,19 @@
 -- The head: its checks one after another, and its bytes and numbers one by one.
-use Rattle.std.proofs.Common.{◌≡◌, ℕ, ◌/◌, ◌%◌, ◌≤◌, List, [], ◌∷◌, ◌++◌, length, get_or, take, ℤ, pos, Ok, Err, Result, sym, refl, ap, ◌∙◌, arith}
+use Rattle.std.proofs.Common.{◌≡◌, ℕ, ◌/◌, ◌%◌, ◌≤◌, List, [], ◌∷◌, length, get_or, take, ℤ, pos, Ok, Err, Result, sym, refl, ap, ◌∙◌, arith}
 use Rattle.wire.specs.Pairs.{pair_bytes}
 use Rattle.wire.specs.Steps.{◌>>=◌}
 use Rattle.books.specs.declared.faults.Rule.TheVariants.{NumberRange}
 use Rattle.books.specs.declared.faults.FieldFault.{FieldFault}
 use Rattle.cells.specs.Signs.{byte_half, pair_half}
 use Rattle.cells.specs.Cells.{twos, or_fault, flag_worth}
+use Rattle.cells.proofs.Flattening.{seen_all, lifted, both}
 use Rattle.labels.specs.Labels.{labels}
 
 -- a list of seven or more, one by one
 pub seven : {X : Type 0} (d : X) (xs : List X) → 7 ≤ length xs → take 7 xs ≡ get_or xs 0 d ∷ get_or xs 1 d ∷ get_or xs 2 d ∷ get_or xs 3 d ∷ get_or xs 4 d ∷ get_or xs 5 d ∷ get_or xs 6 d ∷ []
-seven d (a ∷ b ∷ c ∷ e ∷ f ∷ g ∷ h ∷ xs) l = refl
-seven d (a ∷ b ∷ c ∷ e ∷ f ∷ g ∷ []) l = absurd (omega arith)
-seven d (a ∷ b ∷ c ∷ e ∷ f ∷ []) l = absurd (omega arith)
-seven d (a ∷ b ∷ c ∷ e ∷ []) l = absurd (omega arith)
-seven d (a ∷ b ∷ c ∷ []) l = absurd (omega arith)
-seven d (a ∷ b ∷ []) l = absurd (omega arith)
-seven d (a ∷ []) l = absurd (omega arith)
-seven d [] l = absurd (omega arith)
+seven d xs l = seen_all xs 0 d 7 (omega arith)
 
 -- ---- writing
-abbrev lifted : (ℕ → List ℕ) → Result ℕ FieldFault → Result (List ℕ) FieldFault
-lifted f r = r >>= λ x. Ok (f x)
-
-abbrev both : Result (List ℕ) FieldFault → Result (List ℕ) FieldFault → Result (List ℕ) FieldFault
-both a b = a >>= λ ys. b >>= λ more. Ok (ys ++ more)
-
 flat : (m n x y f : Result ℕ FieldFault) →
     both (lifted pair_bytes m) (both (lifted pair_bytes n) (both (lifted (λ b. b ∷ []) x) (both (lifted (λ b. b ∷ []) y) (both (lifted (λ b. b ∷ []) f) (Ok []))))) ≡
     (m >>= λ m. n >>= λ n. x >>= λ x. y >>= λ y. f >>= λ f. Ok (m / 256 ∷ m % 256 ∷ n / 256 ∷ n % 256 ∷ x ∷ y ∷ f ∷ []))

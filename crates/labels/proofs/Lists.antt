@@ -16,6 +16,7 @@ use Rattle.cells.specs.CellLaws.{turned}
 use Rattle.cells.specs.CodeLaws.{tested, found}
 use Rattle.cells.specs.Layouts.{whole, fitted}
 use Rattle.cells.specs.LayoutLaws.{layout_read, layout_written, whole_sound}
+use Rattle.cells.proofs.Counting.{judged_checked}
 use Rattle.cells.proofs.Turning.{checked_turn}
 use Rattle.labels.specs.Labels.{labels, character, labels_meaning, characters_checked, written_head}
 use Rattle.labels.specs.LabelLaws.{head_sound, character_sound}
@@ -89,10 +90,6 @@ field_checks field = do
   _ ← characters_checked ByteRange (map byte_character field)
   Ok (length field)
 
-judged_checked : (r : Reading) (n : ℕ) → ((list : List ℤ) → r ≡ Ok list → length list ≡ n) → judged r ≡ (checked r >>= λ _. Ok n)
-judged_checked (Ok list) n l = ap Ok (l list refl)
-judged_checked (Err f) n l = refl
-
 pub field_judged : (field : List ℕ) → field_checks field ≡ judged (labels_meaning.reading field)
 field_judged field = go (or_fault DataLength (length field) (fitted labels.many 7 1 (length field))) refl
   where
@@ -104,7 +101,7 @@ field_judged field = go (or_fault DataLength (length field) (fitted labels.many 
         let b = c.2 in
         let f = field_characters field in
         let j = judged_checked ((whole labels k).reading 0 field) (length field) (λ list h. let n = (whole_sound labels head_sound character_sound k).counted 0 field list (omega arith) h in omega arith) in
-        sym (j ∙ rw (t, f) (rw b refl))
+        sym (sym j ∙ rw (t, f) (rw b refl))
 
 -- ---- an accepted list
 list_length : (list : List ℤ) (field : List ℕ) → labels_meaning.writing list ≡ Ok field → length field ≡ length list

@@ -1,6 +1,6 @@
 -- A barb's checks one after another, with each place counted from the barb's first.
-use Rattle.std.proofs.Common.{◌≡◌, ℕ, zero, suc, ◌+◌, ◌-◌, ◌*◌, ◌/◌, ◌%◌, ◌<◌, ◌≤◌, true, leb, List, [], ◌∷◌, ◌++◌, length, get_or, take, drop, ℤ, pos, Ok, Err, Result, sym, refl, ap, ◌∙◌, add-zero, mul-zero, mul-suc, arith}
-use Rattle.std.proofs.lemmas.List.{drop_more, drop-drop, length-drop, take_all}
+use Rattle.std.proofs.Common.{◌≡◌, ℕ, zero, suc, ◌+◌, ◌-◌, ◌*◌, ◌/◌, ◌%◌, ◌<◌, ◌≤◌, true, leb, List, [], ◌∷◌, length, get_or, take, drop, ℤ, pos, Ok, Err, Result, sym, refl, ap, ◌∙◌, mul-zero, mul-suc, arith}
+use Rattle.std.proofs.lemmas.List.{drop-drop, length-drop, take_all}
 use Rattle.std.specs.Simd.{first_chunks}
 use Rattle.std.proofs.lemmas.Bool.{le-leb}
 use Rattle.wire.specs.Pairs.{pair, pair_bytes}
@@ -9,33 +9,11 @@ use Rattle.books.specs.declared.faults.Rule.TheVariants.{NumberRange, ByteRange}
 use Rattle.books.specs.declared.faults.FieldFault.{FieldFault}
 use Rattle.cells.specs.Signs.{signed, pair_half}
 use Rattle.cells.specs.Cells.{upto, twos, or_fault, checked}
+use Rattle.cells.proofs.Flattening.{seen, seen_all, lifted, both}
 use Rattle.winds.specs.declared.barb.Barb.{Barb}
 use Rattle.winds.specs.Winds.{barb, barb_numbers, barb_of, barb_read}
 
--- ---- the elements from i on, one by one
-module _ {X : Type 0} (xs : List X) (i : ℕ) (d : X) where
-  abbrev pub seen : ℕ → ℕ → List X
-  seen zero k = []
-  seen (suc n) k = get_or xs (i + k) d ∷ seen n (suc k)
-
-  seen_from : (n k : ℕ) → i + k + n ≤ length xs → take n (drop (i + k) xs) ≡ seen n k
-  seen_from zero k l = refl
-  seen_from (suc n) k l =
-      let e = drop_more xs (i + k) d (omega arith) in
-      let f : i + k + 1 ≡ i + suc k = omega arith in
-      let r : take n (drop (i + k + 1) xs) ≡ seen n (suc k) = rw f (seen_from n (suc k) (omega arith)) in
-      rw (e, r)
-
-  pub seen_all : (n : ℕ) → i + n ≤ length xs → take n (drop i xs) ≡ seen n 0
-  seen_all n l = let e : i + 0 ≡ i = add-zero i in rw e at (seen_from n 0 (omega arith))
-
 -- ---- writing
-abbrev lifted : {A B : Type 0} → (A → List B) → Result A FieldFault → Result (List B) FieldFault
-lifted f r = r >>= λ x. Ok (f x)
-
-abbrev both : {B : Type 0} → Result (List B) FieldFault → Result (List B) FieldFault → Result (List B) FieldFault
-both a b = a >>= λ ys. b >>= λ more. Ok (ys ++ more)
-
 abbrev checks : (at at₁ at₂ at₃ at₄ at₅ : ℕ) → Barb → Result (List ℕ) FieldFault
 checks at at₁ at₂ at₃ at₄ at₅ b = do
   m ← or_fault NumberRange at ((twos pair_half).worth b.m)

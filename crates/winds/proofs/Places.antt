@@ -1,5 +1,5 @@
 -- The number at an index, and the barbs of a list at their places.
-use Rattle.std.proofs.Common.{◌≡◌, ℕ, ◌+◌, ◌-◌, ◌*◌, ◌/◌, ◌%◌, ◌<◌, ◌≤◌, true, List, [], ◌∷◌, ◌++◌, length, get_or, take, drop, set, ℤ, pos, is_ok, Some, None, Ok, Err, Result, sym, refl, ap, ◌∙◌, arith, take-add}
+use Rattle.std.proofs.Common.{◌≡◌, ℕ, ◌+◌, ◌-◌, ◌*◌, ◌/◌, ◌%◌, ◌<◌, ◌≤◌, true, List, [], ◌∷◌, ◌++◌, length, get_or, take, drop, set, ℤ, pos, is_ok, Some, None, Ok, Err, sym, refl, ap, ◌∙◌, arith, take-add}
 use borrow.Rule.Slice.PartMut.{put_mid}
 use Rattle.std.proofs.lemmas.List.{get_or-take, get_or-drop, length-drop, length-take-le, take_at, take_all}
 use Rattle.std.proofs.lemmas.Option.{slice_get-get_or, slice_get_past}
@@ -7,7 +7,6 @@ use Rattle.std.proofs.lemmas.Slice.{take-put_mid}
 use Rattle.std.specs.List.{slice_get}
 use Rattle.std.specs.Simd.{first_chunks}
 use Rattle.books.specs.declared.faults.Rule.TheVariants.{NumberRange}
-use Rattle.books.specs.declared.faults.FieldFault.{FieldFault}
 use Rattle.books.specs.Books.{Reading, Writing, judged, weighed, number_at}
 use Rattle.cells.specs.Cells.{or_fault, upto, bit_seven, turns}
 use Rattle.cells.specs.CellLaws.{turned}

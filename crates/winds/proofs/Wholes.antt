@@ -4,26 +4,18 @@ use Rattle.std.proofs.lemmas.Bool.{le-leb}
 use Rattle.wire.specs.Steps.{◌>>=◌}
 use Rattle.books.specs.declared.faults.Rule.TheVariants.{DataLength, ListLength, NumberRange, ByteRange}
 use Rattle.books.specs.declared.faults.FieldFault.{FieldFault}
-use Rattle.books.specs.Books.{Reading, Writing, judged, weighed}
+use Rattle.books.specs.Books.{judged, weighed}
 use Rattle.cells.specs.Cells.{or_fault, upto, bit_seven, turns, checked}
 use Rattle.cells.specs.CodeLaws.{found}
 use Rattle.cells.specs.Layouts.{whole, fitted, layout_reading, layout_writing}
 use Rattle.cells.specs.LayoutLaws.{fitted_parts, whole_sound}
+use Rattle.cells.proofs.Counting.{judged_checked, weighed_checked}
 use Rattle.cells.proofs.Turning.{checked_turn}
 use Rattle.winds.specs.Winds.{barb, winds}
 use Rattle.winds.specs.WindLaws.{head_sound, barb_sound}
 
 abbrev passes : Result (Unit {0}) FieldFault
 passes = Ok tt
-
--- ---- a count or a weight that is known where there is no fault
-judged_checked : (r : Reading) (n : ℕ) → ((list : List ℤ) → r ≡ Ok list → length list ≡ n) → (checked r >>= λ _. Ok n) ≡ judged r
-judged_checked (Ok list) n h = ap Ok (sym (h list refl))
-judged_checked (Err f) n h = refl
-
-weighed_checked : (r : Writing) (n : ℕ) → ((field : List ℕ) → r ≡ Ok field → length field ≡ n) → (checked r >>= λ _. Ok n) ≡ weighed r
-weighed_checked (Ok field) n h = ap Ok (sym (h field refl))
-weighed_checked (Err f) n h = refl
 
 -- ---- the head
 head_read : (field : List ℕ) → 2 ≤ length field → get_or field 0 0 < 256 → checked (winds.head.reading 0 (take 2 field)) ≡ (or_fault ByteRange 1 (bit_seven.number (get_or field 1 0)) >>= λ _. Ok tt)
