@@ -1,5 +1,5 @@
 use Rattle.std.proofs.Common.{pos, Some, sym, ap, ◌∙◌, arith, w32, SFits, rules}
-use Rattle.std.proofs.lemmas.Option.{slice_get-get_or, slice_get_past}
+use Rattle.std.proofs.lemmas.Option.{slice_get-get_or}
 use Rattle.std.proofs.lemmas.Int.{to_z-of_z}
 use Rattle.books.specs.Books.{number_at}
 use Rattle.labels.proofs.Lists.{field_accepted}
@@ -16,9 +16,3 @@ returns-in-Ok c =
     let i = c.args.index in
     let f : SFits w32 c.number_at.result = search rules in
     simp to_z-of_z (ap Some (c.number_at.ensures k.0 k.1) ∙ sym (ap (λ r. number_at r i) k.1 ∙ slice_get-get_or k.0 i (pos 0) (omega arith)))
-
-pub returns-in_default : goal.returns-in_default
-returns-in_default c =
-    let k = field_accepted c.args.field.now _ _ c.judge.ensures c.in-Ok.is in
-    let i = c.args.index in
-    sym (ap (λ r. number_at r i) k.1 ∙ slice_get_past k.0 i (omega arith))

@@ -1,19 +1,10 @@
-use Rattle.std.proofs.Common.{◌≡◌, ◌+◌, Ok, ◌∙◌, rules}
+use Rattle.std.proofs.Common.{◌≡◌, ◌+◌, Ok, rules}
 use Rattle.books.specs.declared.faults.Rule.TheVariants.{NumberRange}
 use Rattle.cells.specs.Signs.{pair_half}
 use Rattle.cells.specs.Cells.{or_fault, twos, upto}
 use Rattle.wire.specs.Pairs.{pair_bytes}
-use Rattle.winds.proofs.Barbs.{barb_writing, barb_written, barb_done}
+use Rattle.winds.proofs.Barbs.{barb_done}
 use Rattle.winds.proofs.barb.Barb.bytes.Goals as goal
-
-pub returns-in_err-write_up_to-2 : goal.returns-in_err-write_up_to-2
-returns-in_err-write_up_to-2 c = let e : c.from_residual-in_err-write_up_to-2.result ≡ barb_writing c.args.index c.args.self = search rules in e ∙ barb_written c.args.index c.args.self
-
-pub returns-in_err-gust : goal.returns-in_err-gust
-returns-in_err-gust c = let e : c.from_residual-in_err-gust.result ≡ barb_writing c.args.index c.args.self = search rules in e ∙ barb_written c.args.index c.args.self
-
-pub returns-in_err-hemisphere : goal.returns-in_err-hemisphere
-returns-in_err-hemisphere c = let e : c.from_residual-in_err-hemisphere.result ≡ barb_writing c.args.index c.args.self = search rules in e ∙ barb_written c.args.index c.args.self
 
 pub returns : goal.returns
 returns c =
