@@ -1,2 +1,3 @@
 pub mod PlainWords
+pub mod Roomy
 pub mod Written

@@ -5,4 +5,5 @@ pub mod book;
 pub mod faults;
 pub mod known;
 pub mod plain;
+pub mod room;
 pub mod scan;
