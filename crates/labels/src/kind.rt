@@ -4,6 +4,7 @@ ghost use Rattle.labels.specs.Labels.{labels_meaning};
 
 use crate::parts::{HEAD, check_characters, check_length, check_list, number_at};
 use books::faults::{FieldFault, Rule};
+use books::room::check_room;
 use cells::characters::put_characters;
 use kinds::fixed::Byte;
 use kinds::kind::Kind;
@@ -45,9 +46,7 @@ impl Kind for Labels {
 
     fn write(&self, list: &[i32], place: &mut [u8]) -> Result<(), FieldFault> {
         let head = check_list(list)?;
-        if place.len() != list.len() {
-            return Err(Rule::DataLength.at(place.len()));
-        }
+        check_room(place.len(), list.len())?;
         place[..HEAD].copy_from_slice(&head);
         put_characters(&list[HEAD..], &mut place[HEAD..]);
         Ok(())

@@ -4,7 +4,8 @@ ghost use Rattle.texts.specs.Texts.{text_kind};
 
 use crate::scan::{FIELD_RULES, LIST_RULES, check};
 use crate::text::Text;
-use books::faults::{FieldFault, Rule};
+use books::faults::FieldFault;
+use books::room::check_room;
 use cells::characters::put_characters;
 use kinds::fixed::Byte;
 use kinds::kind::Kind;
@@ -44,10 +45,7 @@ impl<T: Text> Kind for Characters<T> {
     }
 
     fn write(&self, list: &[i32], place: &mut [u8]) -> Result<(), FieldFault> {
-        let weight = self.weigh(list)?;
-        if place.len() != weight {
-            return Err(Rule::DataLength.at(place.len()));
-        }
+        check_room(place.len(), self.weigh(list)?)?;
         put_characters(list, place);
         Ok(())
     }

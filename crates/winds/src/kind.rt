@@ -6,6 +6,7 @@ use crate::parts::{
     BARB_BYTES, BARB_NUMBERS, check_bytes, check_numbers, count_barbs, number_at, put,
 };
 use books::faults::{FieldFault, Rule};
+use books::room::check_room;
 use cells::codes::{read_blanking, write_blanking, write_up_to};
 use kinds::fixed::Byte;
 use kinds::kind::Kind;
@@ -48,10 +49,7 @@ impl Kind for Winds {
     }
 
     fn write(&self, list: &[i32], place: &mut [u8]) -> Result<(), FieldFault> {
-        let weight = self.weigh(list)?;
-        if place.len() != weight {
-            return Err(Rule::DataLength.at(place.len()));
-        }
+        check_room(place.len(), self.weigh(list)?)?;
         put(list, place)
     }
 }

@@ -6,27 +6,6 @@ use Rattle.winds.specs.Winds.{barb_of}
 use Rattle.winds.proofs.Places.{read_known, chunk_count, chunk_read, number_past, number_in}
 use Rattle.winds.proofs.parts.number_at.Goals as goal
 
-pub overflow_mul-k : goal.overflow_mul-k
-overflow_mul-k c =
-    let k = read_known c.args.field.now c.requires in
-    let n = chunk_count c.args.field.now k.barbs _ k.size c.as_chunks.ensures.front_len in
-    let l = c.in_ok-get-in_default.ensures.lookup.3.0 in
-    search rules
-
-pub overflow_add-k : goal.overflow_add-k
-overflow_add-k c =
-    let k = read_known c.args.field.now c.requires in
-    let n = chunk_count c.args.field.now k.barbs _ k.size c.as_chunks.ensures.front_len in
-    let l = c.in_ok-get-in_default.ensures.lookup.3.0 in
-    search rules
-
-pub read-requires : goal.read-requires
-read-requires c =
-    let k = read_known c.args.field.now c.requires in
-    let n = chunk_count c.args.field.now k.barbs _ k.size c.as_chunks.ensures.front_len in
-    let l = c.in_ok-get-in_default.ensures.lookup.3.0 in
-    omega arith
-
 pub returns-in_err-get-in_default : goal.returns-in_err-get-in_default
 returns-in_err-get-in_default c =
     let p = number_past c.args.field.now (read_known c.args.field.now c.requires) c.args.index _ (omega arith) c.as_chunks.ensures.front_len c.in_err-get-in_default.ensures.lookup.3 in
