@@ -6,21 +6,20 @@ use crate::parts::{HEAD, check_characters, check_length, check_list, number_at};
 use books::faults::{FieldFault, Rule};
 use books::room::check_room;
 use cells::characters::put_characters;
-use kinds::fixed::Byte;
 use kinds::kind::Kind;
+use wire::modes::Modes;
 
 /// Characters placed on a chart: M, N, delta M, delta N, B, R, the character size, and then the characters.
 #[derive(Clone, Copy)]
 pub struct Labels;
 
 impl Kind for Labels {
-    type Mode = Byte<5>;
+    const MODES: Modes = Modes {
+        mode: 5,
+        submode: 1,
+    };
 
-    type Submode = Byte<1>;
-
-    const MODE: Byte<5> = Byte { value: 5 };
-
-    const SUBMODE: Byte<1> = Byte { value: 1 };
+    ghost MODES = { record { mode = 5; submode = 1 } };
 
     ghost meaning = { λ _. labels_meaning };
 

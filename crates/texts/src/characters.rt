@@ -7,8 +7,8 @@ use crate::text::Text;
 use books::faults::FieldFault;
 use books::room::check_room;
 use cells::characters::put_characters;
-use kinds::fixed::Byte;
 use kinds::kind::Kind;
+use wire::modes::Modes;
 
 /// The kind of a text: its numbers are its bytes in order.
 #[derive(Clone, Copy)]
@@ -17,13 +17,12 @@ pub struct Characters<T> {
 }
 
 impl<T: Text> Kind for Characters<T> {
-    type Mode = Byte<5>;
+    const MODES: Modes = Modes {
+        mode: 5,
+        submode: T::SUBMODE,
+    };
 
-    type Submode = T::Submode;
-
-    const MODE: Byte<5> = Byte { value: 5 };
-
-    const SUBMODE: T::Submode = T::SUBMODE;
+    ghost MODES = { record { mode = 5; submode = T.SUBMODE } };
 
     ghost meaning = { λ c. text_kind (T.Text.meaning c.text) };
 

@@ -3,7 +3,6 @@ ghost use Rattle.texts.specs.Texts.{message};
 
 use crate::text::{NUL, Text};
 use books::faults::Rule;
-use kinds::fixed::Byte;
 
 /// End of text.
 const ETX: u8 = 3;
@@ -19,9 +18,9 @@ const RS: u8 = 30;
 pub struct Message;
 
 impl Text for Message {
-    type Submode = Byte<4>;
+    const SUBMODE: u8 = 4;
 
-    const SUBMODE: Byte<4> = Byte { value: 4 };
+    ghost SUBMODE = { 4 };
 
     ghost meaning = { λ _. message };
 

@@ -3,16 +3,15 @@ ghost use Rattle.texts.specs.Texts.{routing};
 
 use crate::text::Text;
 use books::faults::Rule;
-use kinds::fixed::Byte;
 
 /// Any characters, or none.
 #[derive(Clone, Copy)]
 pub struct Routing;
 
 impl Text for Routing {
-    type Submode = Byte<0o20>;
+    const SUBMODE: u8 = 0o20;
 
-    const SUBMODE: Byte<0o20> = Byte { value: 0o20 };
+    ghost SUBMODE = { 0o20 };
 
     ghost meaning = { λ _. routing };
 

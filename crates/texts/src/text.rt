@@ -1,18 +1,17 @@
 // What tells one kind of text from another.
 ghost use Rattle.texts.specs.Texts.{TextMeaning};
-ghost use Rattle.std.specs.Prelude.{◌≡◌};
+ghost use Rattle.std.specs.Prelude.{◌≡◌, ℕ};
 
 use books::faults::Rule;
-use kinds::fixed::Fixed;
 
 /// Null, which ends a text.
 pub const NUL: u8 = 0;
 
 /// The texts of mode 5 and one submode.
 pub trait Text {
-    type Submode: Fixed + Copy;
+    const SUBMODE: u8;
 
-    const SUBMODE: Self::Submode;
+    ghost SUBMODE: { ℕ };
 
     ghost meaning: { Self → TextMeaning };
 

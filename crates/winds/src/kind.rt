@@ -8,21 +8,20 @@ use crate::parts::{
 use books::faults::{FieldFault, Rule};
 use books::room::check_room;
 use cells::codes::{read_blanking, write_blanking, write_up_to};
-use kinds::fixed::Byte;
 use kinds::kind::Kind;
+use wire::modes::Modes;
 
 /// Plotted winds: the shaft length and the blanking byte, then 1 to 409 barbs.
 #[derive(Clone, Copy)]
 pub struct Winds;
 
 impl Kind for Winds {
-    type Mode = Byte<5>;
+    const MODES: Modes = Modes {
+        mode: 5,
+        submode: 3,
+    };
 
-    type Submode = Byte<3>;
-
-    const MODE: Byte<5> = Byte { value: 5 };
-
-    const SUBMODE: Byte<3> = Byte { value: 3 };
+    ghost MODES = { record { mode = 5; submode = 3 } };
 
     ghost meaning = { λ _. winds_meaning };
 
