@@ -6,6 +6,7 @@ ghost use Rattle.std.specs.Prelude.{◌≡◌, ◌*◌, length, None};
 
 use crate::book::{Book, MOST_BYTES};
 use crate::faults::{FieldFault, Rule};
+use crate::room::check_room;
 use crate::scan::first_outside;
 use wire::modes::Modes;
 
@@ -49,10 +50,7 @@ impl Book for PlainWords {
     }
 
     fn write(&self, modes: Modes, list: &[i32], place: &mut [u8]) -> Result<(), FieldFault> {
-        let weight = self.weigh(modes, list)?;
-        if place.len() != weight {
-            return Err(Rule::DataLength.at(place.len()));
-        }
+        check_room(place.len(), self.weigh(modes, list)?)?;
         put_words(list, place);
         Ok(())
     }

@@ -19,16 +19,10 @@ use texts::characters::Characters;
 use texts::message::Message;
 use texts::routing::Routing;
 use winds::kind::Winds;
+use wire::modes::Modes;
 
 /// What a place holds before it is written, so that one sees what a refused writing left.
 const BLANK: u8 = 0xAA;
-
-/// The mode and the submode that a book is asked for.
-#[derive(Clone, Copy)]
-struct Block {
-    mode: u8,
-    submode: u8,
-}
 
 #[derive(Drop)]
 enum Question {
@@ -109,11 +103,11 @@ fn read_list(heap: Global, words: &[&str]) -> anyhow::Result<Vec<i32>> {
     Ok(list)
 }
 
-fn read_block(word: &str) -> anyhow::Result<Block> {
+fn read_modes(word: &str) -> anyhow::Result<Modes> {
     let (mode, submode) = word.split_once('/').context("no mode and submode")?;
     let mode = u8::from_str_radix(mode, 8)?;
     let submode = u8::from_str_radix(submode, 8)?;
-    Ok(Block { mode, submode })
+    Ok(Modes { mode, submode })
 }
 
 fn read_question(heap: Global, words: &[&str]) -> anyhow::Result<Question> {
@@ -151,19 +145,18 @@ impl From<Option<i32>> for Answer {
 }
 
 /// The place is told after a refusal too.
-fn write<B: Book>(book: &B, at: Block, list: &[i32], mut place: Vec<u8>) -> Answer {
-    match book.write(at.mode, at.submode, list, &mut place) {
+fn write<B: Book>(book: &B, at: Modes, list: &[i32], mut place: Vec<u8>) -> Answer {
+    match book.write(at, list, &mut place) {
         Ok(()) => Answer::Written(place),
         Err(fault) => Answer::Unwritten(fault, place),
     }
 }
 
-fn ask<B: Book>(heap: Global, book: &B, at: Block, question: &Question) -> anyhow::Result<Answer> {
-    let Block { mode, submode } = at;
+fn ask<B: Book>(heap: Global, book: &B, at: Modes, question: &Question) -> anyhow::Result<Answer> {
     match question {
-        Question::Judge(field) => Ok(book.judge(mode, submode, field).into()),
-        Question::Number(index, field) => Ok(book.number(mode, submode, field, *index).into()),
-        Question::Weigh(list) => Ok(book.weigh(mode, submode, list).into()),
+        Question::Judge(field) => Ok(book.judge(at, field).into()),
+        Question::Number(index, field) => Ok(book.number(at, field, *index).into()),
+        Question::Weigh(list) => Ok(book.weigh(at, list).into()),
         Question::Write(size, list) => {
             let place = vec![in heap; BLANK; *size]?;
             Ok(write(book, at, list, place))
@@ -179,7 +172,7 @@ fn over<K>(kind: K) -> Over<K, PlainWords> {
     }
 }
 
-fn ask_by_name(heap: Global, book: &str, at: Block, question: &Question) -> anyhow::Result<Answer> {
+fn ask_by_name(heap: Global, book: &str, at: Modes, question: &Question) -> anyhow::Result<Answer> {
     match book {
         "plain" => ask(heap, &PlainWords, at, question),
         "routing" => ask(heap, &over(Characters { text: Routing }), at, question),
@@ -196,7 +189,7 @@ fn answer_row(heap: Global, row: &str) -> anyhow::Result<Answer> {
     let [book, at, question @ ..] = words.as_slice() else {
         return Err(anyhow!("a short row"));
     };
-    let at = read_block(at)?;
+    let at = read_modes(at)?;
     let question = read_question(heap, question)?;
     ask_by_name(heap, book, at, &question)
 }

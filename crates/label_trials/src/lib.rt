@@ -4,7 +4,6 @@
 #[cfg(test)]
 mod tests {
     use books::faults::{FieldFault, Rule};
-    use kinds::fixed::{Byte, Fixed};
     use kinds::kind::Kind;
     use labels::kind::Labels;
     use std::process::Abort;
@@ -14,10 +13,8 @@ mod tests {
 
     #[test]
     fn labels_have_mode_5_and_submode_1(rt: HostRuntime) {
-        let mode: Byte<5> = Labels::MODE;
-        let submode: Byte<1> = Labels::SUBMODE;
-        assert_eq!(rt; mode.get(), 5);
-        assert_eq!(rt; submode.get(), 1);
+        assert_eq!(rt; Labels::MODES.mode, 5);
+        assert_eq!(rt; Labels::MODES.submode, 1);
     }
 
     // Puts two bytes or numbers at their places.

@@ -8,8 +8,9 @@ ghost use Rattle.std.specs.Prelude.{◌≡◌, ◌+◌, ◌*◌, ◌/◌, ◌≤
 
 use crate::drafts::Record;
 use books::book::Book;
-use books::faults::{FieldFault, Rule};
+use books::faults::FieldFault;
 use books::known::numbers_known;
+use books::room::check_room;
 use wire::forms::Form;
 use wire::modes::Modes;
 use wire::pairs::sum_pairs;
@@ -58,9 +59,7 @@ pub fn write_block<B: Book>(
 {
     numbers_known(given.numbers);
     let weight = book.weigh(given.modes, given.numbers)?;
-    if place.len() != 2 * usize::from(form.fewest_pairs()) + weight {
-        return Err(Rule::DataLength.at(place.len()));
-    }
+    check_room(place.len(), 2 * usize::from(form.fewest_pairs()) + weight)?;
     book.write(given.modes, given.numbers, &mut place[4..4 + weight])?;
     put_head(place, form, given.modes);
     put_end(place, form);
