@@ -47,10 +47,7 @@ mod tests {
         ];
         for (length, index, want) in &cases {
             assert!(rt; *length <= bytes.len());
-            assert_eq!(rt;
-                PlainWords.number(MODES, &bytes[0..*length], *index),
-                *want
-            );
+            assert_eq!(rt; PlainWords.number(MODES, &bytes[0..*length], *index), *want);
         }
         assert_eq!(rt; PlainWords.number(MODES, &[0; 4_094], 0), None);
     }
@@ -62,21 +59,11 @@ mod tests {
             (0, (0, -1), (1, -1), Ok(0)),
             (2_046, (0, 0), (2_045, 65_535), Ok(4_092)),
             (2_047, (0, 0), (1, 0), Err(Rule::ListLength.at(2_047))),
-            (
-                2_047,
-                (0, -1),
-                (1, 65_536),
-                Err(Rule::ListLength.at(2_047)),
-            ),
+            (2_047, (0, -1), (1, 65_536), Err(Rule::ListLength.at(2_047))),
             (3, (0, -1), (1, 65_535), Err(Rule::NumberRange.at(0))),
             (3, (1, -1), (2, 65_535), Err(Rule::NumberRange.at(1))),
             (3, (2, -1), (0, 65_535), Err(Rule::NumberRange.at(2))),
-            (
-                3,
-                (0, 65_536),
-                (1, 65_535),
-                Err(Rule::NumberRange.at(0)),
-            ),
+            (3, (0, 65_536), (1, 65_535), Err(Rule::NumberRange.at(0))),
             (3, (1, 65_536), (2, -1), Err(Rule::NumberRange.at(1))),
             (
                 2_046,

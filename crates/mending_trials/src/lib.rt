@@ -52,7 +52,11 @@ mod tests {
         });
         let (number, block, at) = match refusal {
             Refusal::NotHeld(inside) => {
-                (usize::from(inside.fault.number()), inside.place.block, inside.place.at)
+                (
+                    usize::from(inside.fault.number()),
+                    inside.place.block,
+                    inside.place.at,
+                )
             }
             _ => (0, 0, 0),
         };

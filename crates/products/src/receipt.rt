@@ -34,7 +34,9 @@ fn walk_blocks<B: Book>(bytes: &[u8], book: &B) -> Result<Closed, ReceiptFault>
     for block in 0..MOST_BLOCKS {
         let rest = &bytes[at..];
         let place = Place { block, at };
-        let head = place.locate(judge_block(rest, Phase::Shut, block, book))?.head;
+        let head = place
+            .locate(judge_block(rest, Phase::Shut, block, book))?
+            .head;
         if is_end(head.modes) {
             if head.size() < rest.len() {
                 return Err(place.fault(BlockFault::Leftover));

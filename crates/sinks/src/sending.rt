@@ -26,7 +26,10 @@ pub fn put_all<S: Sink>(bytes: &[u8], sink: &mut S) -> Result<usize, Full>
 }
 
 /// Puts all pairs into the first cells of `out` and tells their number, or leaves it as it is.
-fn fill<C: Cell<WIDTH> + Drop, const WIDTH: usize>(bytes: &[u8], out: &mut [u8]) -> Result<usize, Full>
+fn fill<C: Cell<WIDTH> + Drop, const WIDTH: usize>(
+    bytes: &[u8],
+    out: &mut [u8],
+) -> Result<usize, Full>
     ensures answer { result ≡ sent (places WIDTH 0 (length out.old)) (length (pairs bytes.now)) }
     ensures memory { out.new ≡ laid WIDTH C.cell (pairs bytes.now) out.old }
 {

@@ -70,7 +70,12 @@ impl BlockLine {
         put(&mut text, " at=", self.at, DECIMAL);
         put(&mut text, " form=", usize::from(self.form), DECIMAL);
         put(&mut text, " mode=", usize::from(self.modes.mode), OCTAL);
-        put(&mut text, " submode=", usize::from(self.modes.submode), OCTAL);
+        put(
+            &mut text,
+            " submode=",
+            usize::from(self.modes.submode),
+            OCTAL,
+        );
         text.push_str(" class=");
         text.push_str(self.class.name());
         put(&mut text, " numbers=", self.numbers, DECIMAL);

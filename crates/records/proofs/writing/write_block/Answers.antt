@@ -1,4 +1,4 @@
-use Rattle.std.proofs.Common.{◌≡◌, ℕ, ◌+◌, ◌*◌, ◌%◌, ◌≤◌, Err, length, sym, ap, ◌∙◌, arith, rules}
+use Rattle.std.proofs.Common.{◌≡◌, ℕ, ◌+◌, ◌*◌, ◌%◌, ◌≤◌, length, sym, ap, ◌∙◌, arith, rules}
 use Rattle.wire.specs.Forms.{fewest_pairs}
 use Rattle.wire.proofs.Coding.{checksum_fits}
 use Rattle.std.proofs.lemmas.Bool.{eq-eqb}
@@ -24,10 +24,10 @@ returns-in_err-check_room g c =
     let q = no_room (length c.args.place.now) (2 * c.from.result + c.in_ok-weight.weight) _ _ c.check_room.ensures c.in_err-check_room.was in
     let other : length c.args.place.now ≡ 2 * fewest_pairs c.args.form + c.in_ok-weight.weight → ⊥ =
     λ e.
-        let t = eq-eqb (length c.args.place.now) (2 * c.from.result + c.in_ok-weight.weight) (e ∙ ap (λ n. 2 * n + c.in_ok-weight.weight) (sym few)) in
-        let f = q.0 in
-        let z : ◌≡◌ {A = ℕ} 0 1 = cc in
-        absurd (omega arith) in
+    let t = eq-eqb (length c.args.place.now) (2 * c.from.result + c.in_ok-weight.weight) (e ∙ ap (λ n. 2 * n + c.in_ok-weight.weight) (sym few)) in
+    let f = q.0 in
+    let z : ◌≡◌ {A = ℕ} 0 1 = cc in
+    absurd (omega arith) in
     let is = q.1 in
     let told = other_answer M r _ w c.args.place.now other in
     record { answer = search rules; after = sym (other_place M r _ w c.args.place.now other) }

@@ -20,11 +20,11 @@ returns g c =
     let ready : Result (Unit {0}) Refusal → Type 0 = λ r. OnOk r (Planned (g.B.Book.meaning c.args.book.now) c.args.memory.now (of_open p) closes (end_of p.close) p.bytes p.bytes (suc p.blocks)) in
     ⊎_elim
     (λ t.
-        let full = close_crowded _ c.args.memory.now p _ _ c.check_held.ensures.value c.in_ok-check_held.was h.within h.few t in
-        let so = told ∙ ap (λ b. refuse b NoRoom) t in
-        record { answer = so ∙ sym (ap passes full); ready = subst ready (sym so) tt })
+    let full = close_crowded _ c.args.memory.now p _ _ c.check_held.ensures.value c.in_ok-check_held.was h.within h.few t in
+    let so = told ∙ ap (λ b. refuse b NoRoom) t in
+    record { answer = so ∙ sym (ap passes full); ready = subst ready (sym so) tt })
     (λ f.
-        let planned = close_planned _ c.args.memory.now p _ _ c.check_held.ensures.value c.in_ok-check_held.was h.within h.few f in
-        let so = told ∙ ap (λ b. refuse b NoRoom) f in
-        record { answer = so ∙ sym (ap passes planned.result); ready = subst ready (sym so) planned })
+    let planned = close_planned _ c.args.memory.now p _ _ c.check_held.ensures.value c.in_ok-check_held.was h.within h.few f in
+    let so = told ∙ ap (λ b. refuse b NoRoom) f in
+    record { answer = so ∙ sym (ap passes planned.result); ready = subst ready (sym so) planned })
     (cases_Bool (crowded c.args.memory.now p.close p.bytes))
