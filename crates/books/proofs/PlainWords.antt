@@ -1,6 +1,8 @@
 -- What the four questions of the plain-word book need.
-use Rattle.std.proofs.Common.{◌≡◌, ℕ, zero, suc, ◌+◌, ◌*◌, ◌/◌, ◌%◌, ◌<◌, ◌≤◌, true, List, [], ◌∷◌, ◌++◌, length, get_or, take, set, ℤ, pos, nat_abs, Some, None, Ok, Err, Result, sym, refl, ap, ◌∙◌, arith}
+use Rattle.std.proofs.Common.{◌≡◌, ℕ, zero, suc, ◌+◌, ◌*◌, ◌/◌, ◌%◌, ◌<◌, ◌≤◌, true, List, [], ◌∷◌, ◌++◌, length, get_or, take, set, ℤ, pos, nat_abs, Some, None, Ok, Err, Option, Result, sym, refl, ap, ◌∙◌, arith}
 use Rattle.std.specs.List.{slice_get}
+use Rattle.std.specs.Result.{result_ok}
+use Rattle.std.specs.Simd.{first_chunks}
 use Rattle.std.proofs.ByRecursion.{All-get_or}
 use Rattle.std.proofs.lemmas.List.{append_assoc, length-set, take_more, take_more_set}
 use Rattle.wire.specs.Pairs.{pair, pair_bytes}
@@ -20,7 +22,22 @@ nth_words (a ∷ b ∷ bs) (suc i) h =
     let f : 2 * suc i + 1 ≡ suc (suc (2 * i + 1)) = omega arith in
     rw (f, e) (nth_words bs i (omega arith))
 
+-- the two bytes of each chunk of two
+pub chunk_word : (k i : ℕ) (bs d : List ℕ) → i < k → 2 * k ≤ length bs → (get_or (get_or (first_chunks 2 k bs) i d) 0 0 ≡ get_or bs (2 * i) 0) × (get_or (get_or (first_chunks 2 k bs) i d) 1 0 ≡ get_or bs (2 * i + 1) 0)
+chunk_word zero i bs d l m = absurd (omega arith)
+chunk_word (suc k) i [] d l m = absurd (omega arith)
+chunk_word (suc k) i (a ∷ []) d l m = absurd (omega arith)
+chunk_word (suc k) zero (a ∷ b ∷ bs) d l m = (refl, refl)
+chunk_word (suc k) (suc i) (a ∷ b ∷ bs) d l m =
+    let e : 2 * suc i ≡ suc (suc (2 * i)) = omega arith in
+    let f : 2 * suc i + 1 ≡ suc (suc (2 * i + 1)) = omega arith in
+    rw (f, e) (chunk_word k i bs d (omega arith) (omega arith))
+
 -- ---- what a count of words and a weight tell
+ok_back : (r : Result ℕ FieldFault) (n : ℕ) → result_ok r ≡ Some n → r ≡ Ok n
+ok_back (Ok m) n h = cc
+ok_back (Err f) n h = let z : ◌≡◌ {A = ℕ} 0 1 = cc in absurd (omega arith)
+
 ok_judged : (r : Reading) (a : Result ℕ FieldFault) (n : ℕ) → a ≡ judged r → a ≡ Ok n → (list : List ℤ) × (r ≡ Ok list) × (length list ≡ n)
 ok_judged (Ok list) a n e h = (list, refl, cc)
 ok_judged (Err f) a n e h = let z : ◌≡◌ {A = ℕ} 0 1 = cc in absurd (omega arith)
@@ -36,6 +53,9 @@ counted_words field a count e h =
     let l = ap length w.2 in
     let n = k.2 in
     (w.0, w.1, omega (arith, length_words field))
+
+pub judged_words : (field : List ℕ) (a : Result ℕ FieldFault) (o : Option ℕ) (n : ℕ) → a ≡ judged (word_reading field) → o ≡ result_ok a → o ≡ Some n → (length field % 2 ≡ 0) × (length field ≤ most_bytes) × (n ≡ length field / 2)
+judged_words field a o n e v h = counted_words field a n e (ok_back a n (sym v ∙ h))
 
 pub weighed_words : (list : List ℤ) (a : Result ℕ FieldFault) (weight : ℕ) → a ≡ weighed (word_writing list) → a ≡ Ok weight → (length list ≤ most_words) × (first_fail (within top_word) list ≡ None) × (weight ≡ 2 * length list) × (word_writing list ≡ Ok (word_bytes list))
 weighed_words list a weight e h =

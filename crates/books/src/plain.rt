@@ -30,13 +30,10 @@ impl Book for PlainWords {
     }
 
     fn number(&self, modes: Modes, field: &[u8], index: usize) -> Option<i32> {
-        match self.judge(modes, field) {
-            Ok(count) if index < count => {
-                let word = u16::from_be_bytes([field[2 * index], field[2 * index + 1]]);
-                Some(i32::from(word))
-            }
-            _ => None,
-        }
+        self.judge(modes, field).ok()?;
+        let (words, _) = field.as_chunks::<2>();
+        let word = words.get(index)?;
+        Some(i32::from(u16::from_be_bytes(*word)))
     }
 
     fn weigh(&self, _modes: Modes, list: &[i32]) -> Result<usize, FieldFault> {

@@ -6,7 +6,7 @@ ghost use Rattle.std.specs.Prelude.{◌≡◌, not};
 fn is_outside(number: i32, top: u16) -> bool
     ensures { result ≡ not (within top number) }
 {
-    number < 0 || number > i32::from(top)
+    !(0..=i32::from(top)).contains(&number)
 }
 
 /// The index of the first number outside 0 to `top`.

@@ -62,7 +62,7 @@ impl Cell for u16 {
     ghost of = { λ worth. worth };
 
     fn unsigned(self) -> i32 {
-        i32::from(self)
+        self.into()
     }
 
     fn from_unsigned(number: i32) -> Option<u16> {

@@ -15,10 +15,7 @@ impl Element for u8 {
     ghost reads = { byte_character };
 
     fn character(&self) -> Option<u8> {
-        match *self {
-            0..=127 => Some(*self),
-            _ => None,
-        }
+        Some(*self).filter(u8::is_ascii)
     }
 }
 
@@ -26,10 +23,7 @@ impl Element for i32 {
     ghost reads = { number_character };
 
     fn character(&self) -> Option<u8> {
-        match *self {
-            0..=127 => Some(*self as u8),
-            _ => None,
-        }
+        u8::try_from(*self).ok().filter(u8::is_ascii)
     }
 }
 

@@ -21,10 +21,7 @@ impl Phase {
     fn bars_end(self) -> bool
         ensures { result ≡ bars_end self }
     {
-        match self {
-            Phase::Opened => true,
-            Phase::Shut => false,
-        }
+        self == Phase::Opened
     }
 }
 
@@ -65,7 +62,7 @@ pub fn is_misplaced(block: usize, modes: Modes) -> bool
 fn is_definition(modes: Modes) -> bool
     ensures { result ≡ defines (class_of modes.mode modes.submode) }
 {
-    matches!(Class::from(modes), Class::Definition)
+    Class::from(modes) == Class::Definition
 }
 
 /// A definition that is not block 1.

@@ -7,7 +7,7 @@ use Rattle.judging.specs.declared.faults.Refusal.{Refusal}
 use Rattle.products.specs.Opens.{passes}
 use Rattle.products.specs.declared.opened.Open.{Open}
 use Rattle.products.specs.declared.closed.Closed.{Closed}
-use Rattle.products.specs.Answers.{product_after, memory_after, shut_by, reopened_by}
+use Rattle.products.specs.Answers.{product_after, memory_after, opened_by, closed_by}
 use Rattle.products.specs.Calls.{Call, closes, reopens, Stored, leads_to, outcome}
 use Rattle.products.specs.Products.{Product, of_open, of_closed}
 use Rattle.products.specs.Plans.{Planned}
@@ -38,13 +38,13 @@ module _ (M : Meaning) (mem : List ℕ) (p : Product) (c : Call) (x : List ℕ) 
 
 -- the product in its other type
 module _ (M : Meaning) (mem : List ℕ) (p : Open) (x : List ℕ) (a b n : ℕ) (P : Planned M mem (of_open p) closes x a b n) where
-  pub shut_left : (m : ℕ) → m ≡ (p.bytes - (b - a)) + length x → (k : ℕ) → k ≡ n → Ok (record { bytes = m; blocks = k; close = p.close }) ≡ shut_by (outcome M mem (of_open p) closes) p
+  pub shut_left : (m : ℕ) → m ≡ (p.bytes - (b - a)) + length x → (k : ℕ) → k ≡ n → Ok (record { bytes = m; blocks = k; close = p.close }) ≡ closed_by (outcome M mem (of_open p) closes)
   shut_left m e k f =
       ap₂ (λ i j. Ok (record { bytes = i; blocks = j; close = p.close })) (e ∙ sym (length_spliced mem p.bytes a b P.forward P.inside P.within x)) f
-      ∙ sym (ap (λ u. shut_by u p) P.result)
+      ∙ sym (ap closed_by P.result)
 
 module _ (M : Meaning) (mem : List ℕ) (p : Closed) (x : List ℕ) (a b n : ℕ) (P : Planned M mem (of_closed p) reopens x a b n) where
-  pub reopened_left : (m : ℕ) → m ≡ (p.bytes - (b - a)) + length x → Ok (record { bytes = m; blocks = n; close = p.close }) ≡ reopened_by (outcome M mem (of_closed p) reopens) p
+  pub reopened_left : (m : ℕ) → m ≡ (p.bytes - (b - a)) + length x → Ok (record { bytes = m; blocks = n; close = p.close }) ≡ opened_by (outcome M mem (of_closed p) reopens)
   reopened_left m e =
       ap (λ i. Ok (record { bytes = i; blocks = n; close = p.close })) (e ∙ sym (length_spliced mem p.bytes a b P.forward P.inside P.within x))
-      ∙ sym (ap (λ u. reopened_by u p) P.result)
+      ∙ sym (ap opened_by P.result)

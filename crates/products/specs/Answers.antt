@@ -1,5 +1,6 @@
 -- What an outcome leaves to the caller.
 use Rattle.std.specs.Prelude.{◌≡◌, ℕ, List, Ok, Err, Result}
+use Rattle.wire.specs.Steps.{blame}
 use Rattle.books.specs.Books.{Meaning}
 use Rattle.judging.specs.declared.faults.Refusal.{Refusal}
 use Rattle.products.specs.declared.opened.Open.{Open}
@@ -24,16 +25,21 @@ pub record Mends (M : Meaning) (mem : List ℕ) (p : Product) (c : Call) (result
   pub product : p' ≡ product_after (outcome M mem p c) p
   pub after : mem' ≡ memory_after (outcome M mem p c) mem
 
--- the product that was started
+-- the product that a call leaves, open or closed
 abbrev pub opened_by : Result Stored Refusal → Result Open Refusal
 opened_by (Ok x) = Ok (as_open x.product)
 opened_by (Err e) = Err e
 
--- a product that goes over into its other type, or is handed back
+abbrev pub closed_by : Result Stored Refusal → Result Closed Refusal
+closed_by (Ok x) = Ok (as_closed x.product)
+closed_by (Err e) = Err e
+
+-- the same, or the product handed back with the refusal
+abbrev pub or_kept : {P Q : Type 0} → P → Result Q Refusal → Result Q (Kept P)
+or_kept p r = blame (λ e. record { product = p; refusal = e }) r
+
 abbrev pub shut_by : Result Stored Refusal → Open → Result Closed (Kept Open)
-shut_by (Ok x) p = Ok (as_closed x.product)
-shut_by (Err e) p = Err (record { product = p; refusal = e })
+shut_by r p = or_kept p (closed_by r)
 
 abbrev pub reopened_by : Result Stored Refusal → Closed → Result Open (Kept Closed)
-reopened_by (Ok x) p = Ok (as_open x.product)
-reopened_by (Err e) p = Err (record { product = p; refusal = e })
+reopened_by r p = or_kept p (opened_by r)

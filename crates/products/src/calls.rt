@@ -1,5 +1,5 @@
 // The calls that start, mend, close and reopen a product.
-ghost use Rattle.products.specs.Answers.{Mends, memory_after, opened_by, shut_by, reopened_by};
+ghost use Rattle.products.specs.Answers.{Mends, memory_after, opened_by, closed_by, shut_by, reopened_by};
 ghost use Rattle.products.specs.Calls.{outcome, started, adds, replaces, withdraws, closes, reopens};
 ghost use Rattle.products.specs.Plans.{Planned, Ready};
 ghost use Rattle.products.specs.Products.{of_open, of_closed};
@@ -169,57 +169,57 @@ impl Open {
         check_room(memory, self.bytes, self.close)
     }
 
+    fn shut<B: Book>(&self, memory: &mut [u8], book: &B) -> Result<Closed, Refusal>
+        ensures answer { result ≡ closed_by (outcome (B.meaning book.now) memory.old (of_open self.now) closes) }
+        ensures after { memory.new ≡ memory_after (outcome (B.meaning book.now) memory.old (of_open self.now) closes) memory.old }
+    {
+        self.check_close(memory, book)?;
+        let bytes = put_end(memory, self.bytes, self.close)?;
+        Ok(Closed {
+            bytes,
+            blocks: self.blocks + 1,
+            close: self.close,
+        })
+    }
+
     /// Writes the end, or hands the product back.
     pub fn close<B: Book>(self, memory: &mut [u8], book: &B) -> Result<Closed, Kept<Open>>
         ensures answer { result ≡ shut_by (outcome (B.meaning book.now) memory.old (of_open self) closes) self }
         ensures after { memory.new ≡ memory_after (outcome (B.meaning book.now) memory.old (of_open self) closes) memory.old }
     {
-        if let Err(refusal) = self.check_close(memory, book) {
-            return Err(Kept {
-                product: self,
-                refusal,
-            });
-        }
-        match put_end(memory, self.bytes, self.close) {
-            Ok(bytes) => Ok(Closed {
-                bytes,
-                blocks: self.blocks + 1,
-                close: self.close,
-            }),
-            Err(refusal) => Err(Kept {
-                product: self,
-                refusal,
-            }),
-        }
+        self.shut(memory, book).map_err(|refusal| Kept {
+            product: self,
+            refusal,
+        })
     }
 }
 
 impl Closed {
+    fn opened<B: Book>(&self, memory: &mut [u8], book: &B) -> Result<Open, Refusal>
+        ensures answer { result ≡ opened_by (outcome (B.meaning book.now) memory.old (of_closed self.now) reopens) }
+        ensures after { memory.new ≡ memory_after (outcome (B.meaning book.now) memory.old (of_closed self.now) reopens) memory.old }
+    {
+        self.check_held(memory, book)?;
+        let part = Part {
+            from: self.bytes - end_size(self.close),
+            to: self.bytes,
+        };
+        let bytes = cut(memory, self.bytes, part)?;
+        Ok(Open {
+            bytes,
+            blocks: self.blocks - 1,
+            close: self.close,
+        })
+    }
+
     /// Removes the end, or hands the product back.
     pub fn reopen<B: Book>(self, memory: &mut [u8], book: &B) -> Result<Open, Kept<Closed>>
         ensures answer { result ≡ reopened_by (outcome (B.meaning book.now) memory.old (of_closed self) reopens) self }
         ensures after { memory.new ≡ memory_after (outcome (B.meaning book.now) memory.old (of_closed self) reopens) memory.old }
     {
-        if let Err(refusal) = self.check_held(memory, book) {
-            return Err(Kept {
-                product: self,
-                refusal,
-            });
-        }
-        let part = Part {
-            from: self.bytes - end_size(self.close),
-            to: self.bytes,
-        };
-        match cut(memory, self.bytes, part) {
-            Ok(bytes) => Ok(Open {
-                bytes,
-                blocks: self.blocks - 1,
-                close: self.close,
-            }),
-            Err(refusal) => Err(Kept {
-                product: self,
-                refusal,
-            }),
-        }
+        self.opened(memory, book).map_err(|refusal| Kept {
+            product: self,
+            refusal,
+        })
     }
 }

@@ -1,7 +1,15 @@
--- Proofs, and no definitions: the line of a pair reads as that pair.
+-- Proofs, and no definitions: cells of two bytes and of a line read as the pair that they were written for.
 use Rattle.std.specs.Prelude.{◌≡◌, ℕ, ◌+◌, ◌-◌, ◌*◌, ◌/◌, ◌^◌, ◌<◌, refl}
 use Rattle.std.proofs.Common.{arith}
+use Rattle.wire.specs.Blocks.{first_pair}
+use Rattle.wire.specs.Pairs.{pair_bytes}
 use Rattle.sinks.specs.Cells.{octal_digit, octal_line, octal_worth}
+
+pub some_bytes : (n : ℕ) → 0 < n + 1
+some_bytes n = omega arith
+
+pub bytes_back : (p : ℕ) → p < 2 ^ 16 → first_pair (pair_bytes p) ≡ p
+bytes_back p h = omega arith
 
 -- the digits, from the first on
 pub octal_back : (p : ℕ) → p < 2 ^ 16 → octal_worth (octal_line p) ≡ p

@@ -2,7 +2,7 @@
 ghost use Rattle.wire.specs.Blocks.{first_pair};
 ghost use Rattle.wire.specs.Pairs.{pair_bytes};
 ghost use Rattle.std.specs.Prelude.{refl};
-ghost use Rattle.std.proofs.Common.{arith};
+ghost use Rattle.sinks.specs.CellLaws.{some_bytes, bytes_back};
 
 use crate::cells::{Cell, CellSink};
 
@@ -22,9 +22,9 @@ impl Cell<2> for TwoBytes {
         pair.to_be_bytes()
     }
 
-    ghost some = { omega arith };
+    ghost some = { some_bytes 1 };
 
     ghost wide = { λ p. refl };
 
-    ghost back = { λ p h. omega arith };
+    ghost back = { bytes_back };
 }

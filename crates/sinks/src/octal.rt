@@ -1,8 +1,7 @@
 // Pairs as text.
 ghost use Rattle.std.specs.Prelude.{◌≡◌, ◌<◌, refl};
-ghost use Rattle.std.proofs.Common.{arith};
 ghost use Rattle.sinks.specs.Cells.{octal_digit, octal_line, octal_worth};
-ghost use Rattle.sinks.specs.CellLaws.{octal_back};
+ghost use Rattle.sinks.specs.CellLaws.{some_bytes, octal_back};
 
 use crate::cells::{Cell, CellSink};
 
@@ -37,7 +36,7 @@ impl Cell<7> for OctalLine {
         ]
     }
 
-    ghost some = { omega arith };
+    ghost some = { some_bytes 6 };
 
     ghost wide = { λ p. refl };
 

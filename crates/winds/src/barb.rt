@@ -1,6 +1,6 @@
 // One barb: ten bytes, six numbers.
 ghost use Rattle.winds.specs.Winds.{barb, barb_numbers, barb_read};
-ghost use Rattle.std.specs.Prelude.{◌≡◌, ◌≤◌};
+ghost use Rattle.std.specs.Prelude.{◌≡◌, ◌+◌, ◌^◌, ◌<◌, ◌≤◌};
 
 use books::faults::FieldFault;
 use cells::cell::Cell;
@@ -69,7 +69,7 @@ impl Barb {
 
     /// Reads ten bytes of a data field, which stand from an offset on.
     pub(crate) fn read(bytes: &[u8; 10], offset: usize) -> Result<Barb, FieldFault>
-        requires { offset ≤ 4082 }
+        requires { offset + 9 < 2 ^ 64 }
         ensures { result ≡ barb_read offset bytes.now }
     {
         let [m0, m1, n0, n1, d0, d1, s0, s1, gust, hemisphere] = *bytes;

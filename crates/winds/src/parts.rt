@@ -33,7 +33,7 @@ pub(crate) fn count_barbs(length: usize, each: usize, rule: Rule) -> Result<usiz
 
 /// Checks the barbs of a data field.
 pub(crate) fn check_bytes(field: &[u8]) -> Result<(), FieldFault>
-    requires { (2 ≤ length field.now) × (length field.now ≤ 4092) }
+    requires { 2 ≤ length field.now }
     ensures { result ≡ checked (turns ((length field.now - 2) / 10) 10 barb.reading 2 (drop 2 field.now)) }
 {
     let (chunks, _) = field[2..].as_chunks::<BARB_BYTES>();

@@ -1,5 +1,6 @@
 -- Going through checks that may refuse, forwards and backwards.
-use Rattle.std.proofs.Common.{◌≡◌, ℕ, Bool, true, false, Ok, Err, Result, sym, refl, ◌∙◌, arith}
+use Rattle.std.proofs.Common.{◌≡◌, ℕ, Bool, true, false, Ok, Err, Result, sym, refl, ap, ◌∙◌, arith}
+use Rattle.std.specs.Prelude.{MatchResult, IsErrAnd}
 use Rattle.wire.specs.Steps.{◌>>=◌, refuse, blame}
 
 pub pass : {B E : Type 0} (b : Bool) (e : E) (k : Unit {0} → Result B E) {x : Result B E} → b ≡ false → k tt ≡ x → (refuse b e >>= k) ≡ x
@@ -36,3 +37,14 @@ same_ok h = cc
 
 pub from_there : {A B E : Type 0} (m : Result A E) (a : A) (k : A → Result B E) {y : Result B E} → m ≡ Ok a → (m >>= k) ≡ y → k a ≡ y
 from_there m a k e h = sym (go_on m a k e refl) ∙ h
+
+-- a result whose error a closure has told in other words
+pub blamed : {A E F : Type 0} (f : E → F) (P : E → F → Type 0) (r : Result A E) (q : Result A F) → MatchResult r (λ x. q ≡ Ok x) (λ e. IsErrAnd q (P e))
+    → ((e : E) (x : F) → P e x → x ≡ f e) → q ≡ blame f r
+blamed f P (Ok x) q h post = h
+blamed f P (Err e) (Ok x) h post = absurd h
+blamed f P (Err e) (Err y) h post = ap Err (post e y h)
+
+pub blamed_alike : {A E F : Type 0} (f : E → F) (P : A → Type 0) (Q : Type 0) (r : Result A E) (q : Result A F) → q ≡ blame f r → MatchResult r P (λ _. Q) → MatchResult q P (λ _. Q)
+blamed_alike f P Q (Ok x) q e h = rw e h
+blamed_alike f P Q (Err d) q e h = rw e h

@@ -1,12 +1,12 @@
 // The forms of a block.
 ghost use Rattle.wire.specs.Forms.{form_number, form_numbered, checksum_pairs, fewest_pairs};
-ghost use Rattle.std.specs.Prelude.{◌≡◌};
+ghost use Rattle.std.specs.Prelude.{◌≡◌, ◌*◌};
 
 /// Which of LENGTH and CHECKSUM a block has.
 #[derive(Clone, Copy, PartialEq, Eq, Debug)]
 pub enum Form {
     /// Form 0: LENGTH and CHECKSUM.
-    Checksummed,
+    Checksummed = 0,
     /// Form 1: LENGTH alone.
     LengthOnly,
 }
@@ -35,10 +35,7 @@ impl Form {
     pub fn number(self) -> u8
         ensures { result ≡ form_number self }
     {
-        match self {
-            Form::Checksummed => 0,
-            Form::LengthOnly => 1,
-        }
+        self as u8
     }
 
     /// How many pairs the CHECKSUM takes.
@@ -56,5 +53,12 @@ impl Form {
         ensures { result ≡ fewest_pairs self }
     {
         2 + self.checksum_pairs()
+    }
+
+    /// How many bytes a block without data has.
+    pub fn fewest_bytes(self) -> usize
+        ensures { result ≡ 2 * fewest_pairs self }
+    {
+        2 * usize::from(self.fewest_pairs())
     }
 }

@@ -1,5 +1,5 @@
 // Bytes in pairs.
-ghost use Rattle.wire.specs.Pairs.{pair, pair_sum};
+ghost use Rattle.wire.specs.Pairs.{Bytes, pair, pair_sum};
 ghost use Rattle.std.specs.Prelude.{◌≡◌};
 
 /// What two bytes are worth.
@@ -18,4 +18,11 @@ pub fn sum_pairs(bytes: &[u8]) -> u16
         sum = sum.wrapping_add(worth(two[0], two[1]));
     }
     sum
+}
+
+/// Tells a proof that what lies in memory is bytes.
+pub fn bytes_known(bytes: &[u8])
+    ensures { Bytes bytes.now }
+{
+    let _ = bytes.is_empty();
 }

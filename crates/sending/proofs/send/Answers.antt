@@ -6,7 +6,8 @@ use Rattle.products.proofs.Opening.{passed_by}
 use Rattle.products.specs.Holding.{held}
 use Rattle.products.proofs.Held.{is_held_passes}
 use Rattle.sinks.specs.Sinks.{Took, sent}
-use Rattle.sending.proofs.Telling.{blamed, blamed_alike, whole, sending_told}
+use Rattle.wire.proofs.Passing.{blamed, blamed_alike}
+use Rattle.sending.proofs.Telling.{whole, sending_told}
 use Rattle.sending.proofs.send.Goals as goal
 
 pub returns : goal.returns
