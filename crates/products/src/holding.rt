@@ -24,9 +24,7 @@ impl Closed {
         if found.blocks != self.blocks || found.close != self.close {
             let last = Place {
                 block: found.blocks - 1,
-                at: self
-                    .bytes
-                    .saturating_sub(2 * usize::from(found.close.fewest_pairs())),
+                at: self.bytes.saturating_sub(found.close.fewest_bytes()),
             };
             return Err(Refusal::NotHeld(last.fault(BlockFault::Leftover)));
         }

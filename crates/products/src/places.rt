@@ -28,7 +28,7 @@ pub(crate) fn end_size(form: Form) -> usize
     ensures value { result ≡ length (end_of form) }
     ensures short { result ≤ 6 }
 {
-    2 * usize::from(form.fewest_pairs())
+    form.fewest_bytes()
 }
 
 /// Where a block lies among the bytes of a product.

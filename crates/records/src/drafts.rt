@@ -63,6 +63,6 @@ pub fn check_record<B: Book>(
     if weight > most_data(form) {
         return Err(Refusal::DataTooLong);
     }
-    let size = 2 * usize::from(form.fewest_pairs()) + weight;
+    let size = form.fewest_bytes() + weight;
     Ok(Draft { form, size })
 }

@@ -59,7 +59,7 @@ pub fn write_block<B: Book>(
 {
     numbers_known(given.numbers);
     let weight = book.weigh(given.modes, given.numbers)?;
-    check_room(place.len(), 2 * usize::from(form.fewest_pairs()) + weight)?;
+    check_room(place.len(), form.fewest_bytes() + weight)?;
     book.write(given.modes, given.numbers, &mut place[4..4 + weight])?;
     put_head(place, form, given.modes);
     put_end(place, form);

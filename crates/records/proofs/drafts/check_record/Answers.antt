@@ -15,9 +15,9 @@ returns g c =
     let e15 : form_of given.form ≡ Some form = search rules in
     let e10 : astray c.args.block given.modes.mode given.modes.submode ≡ false = search rules in
     let made = draft_made M c.args.block c.args.misfit (gives given.form given.modes.mode given.modes.submode given.numbers.now) form c.in_ok-weight.weight w e15 (omega arith) c.if-misfit.false e10 (omega arith) in
-    let few = c.from-2.ensures ∙ c.fewest_pairs.ensures in
+    let few = c.fewest_bytes.ensures in
     record {
-      value = ap (λ n. Ok (record { form = form; size = 2 * n + c.in_ok-weight.weight })) few ∙ sym made;
-      fits = block_weight M (says form given.modes.mode given.modes.submode given.numbers.now) _ w ∙ ap (λ n. Ok (2 * n + c.in_ok-weight.weight)) (sym few);
+      value = ap (λ n. Ok (record { form = form; size = n + c.in_ok-weight.weight })) few ∙ sym made;
+      fits = block_weight M (says form given.modes.mode given.modes.submode given.numbers.now) _ w ∙ ap (λ n. Ok (n + c.in_ok-weight.weight)) (sym few);
       short = omega (arith, few, checksum_fits form);
     }

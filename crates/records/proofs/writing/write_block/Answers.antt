@@ -9,22 +9,24 @@ use Rattle.records.proofs.Sizes.{weighed_back}
 use Rattle.records.proofs.Putting.{fits_answer, fits_place, other_answer, other_place, same_field, middle_length, headed, ended}
 use Rattle.records.proofs.writing.write_block.Goals as goal
 
-pub overflow_add-from : goal.overflow_add-from
-overflow_add-from g c =
+pub overflow_add-fewest_bytes : goal.overflow_add-fewest_bytes
+overflow_add-fewest_bytes g c =
     let w = weighed_back (g.B.Book.meaning c.args.book.now) (g.B.Book.lawful c.args.book.now) (says c.args.form c.args.given.modes.mode c.args.given.modes.submode c.args.given.numbers.now) _ _ c.numbers_known.ensures c.weigh.ensures c.in_ok-weight.was in
     let short : c.in_ok-weight.weight ≤ most_bytes = w.short in
-    search rules
+    let few = c.fewest_bytes.ensures in
+    let fits = checksum_fits c.args.form in
+    omega (arith, few, fits, short)
 
 pub returns-in_err-check_room : goal.returns-in_err-check_room
 returns-in_err-check_room g c =
     let r = says c.args.form c.args.given.modes.mode c.args.given.modes.submode c.args.given.numbers.now in
     let M = g.B.Book.meaning c.args.book.now in
     let w = weighed_back M (g.B.Book.lawful c.args.book.now) r _ _ c.numbers_known.ensures c.weigh.ensures c.in_ok-weight.was in
-    let few = c.from.ensures ∙ c.fewest_pairs.ensures in
-    let q = no_room (length c.args.place.now) (2 * c.from.result + c.in_ok-weight.weight) _ _ c.check_room.ensures c.in_err-check_room.was in
+    let few = c.fewest_bytes.ensures in
+    let q = no_room (length c.args.place.now) (c.fewest_bytes.result + c.in_ok-weight.weight) _ _ c.check_room.ensures c.in_err-check_room.was in
     let other : length c.args.place.now ≡ 2 * fewest_pairs c.args.form + c.in_ok-weight.weight → ⊥ =
     λ e.
-    let t = eq-eqb (length c.args.place.now) (2 * c.from.result + c.in_ok-weight.weight) (e ∙ ap (λ n. 2 * n + c.in_ok-weight.weight) (sym few)) in
+    let t = eq-eqb (length c.args.place.now) (c.fewest_bytes.result + c.in_ok-weight.weight) (e ∙ ap (λ n. n + c.in_ok-weight.weight) (sym few)) in
     let f = q.0 in
     let z : ◌≡◌ {A = ℕ} 0 1 = cc in
     absurd (omega arith) in
@@ -39,8 +41,8 @@ put_head-requires g c =
     let r = says c.args.form c.args.given.modes.mode c.args.given.modes.submode c.args.given.numbers.now in
     let M = g.B.Book.meaning c.args.book.now in
     let w = weighed_back M (g.B.Book.lawful c.args.book.now) r _ _ c.numbers_known.ensures c.weigh.ensures c.in_ok-weight.was in
-    let few = c.from.ensures ∙ c.fewest_pairs.ensures in
-    let room : length place ≡ 2 * fewest_pairs c.args.form + n = just_room _ _ _ c.check_room.ensures c.in_ok-check_room.was ∙ ap (λ j. 2 * j + n) few in
+    let few = c.fewest_bytes.ensures in
+    let room : length place ≡ 2 * fewest_pairs c.args.form + n = just_room _ _ _ c.check_room.ensures c.in_ok-check_room.was ∙ ap (λ j. j + n) few in
     let y = same_field M r _ w place _ _ _ c.write.ensures.answer c.in_ok-write.was c.write.ensures.after in
     let l = middle_length c.args.form c.args.given.modes.mode c.args.given.modes.submode w.field place (omega (arith, w.even, w.long)) (omega (arith, w.long, room)) n _ (sym w.long) y in
     let few_pairs = checksum_fits c.args.form in
@@ -53,8 +55,8 @@ returns g c =
     let r = says c.args.form c.args.given.modes.mode c.args.given.modes.submode c.args.given.numbers.now in
     let M = g.B.Book.meaning c.args.book.now in
     let w = weighed_back M (g.B.Book.lawful c.args.book.now) r _ _ c.numbers_known.ensures c.weigh.ensures c.in_ok-weight.was in
-    let few = c.from.ensures ∙ c.fewest_pairs.ensures in
-    let room : length place ≡ 2 * fewest_pairs c.args.form + n = just_room _ _ _ c.check_room.ensures c.in_ok-check_room.was ∙ ap (λ j. 2 * j + n) few in
+    let few = c.fewest_bytes.ensures in
+    let room : length place ≡ 2 * fewest_pairs c.args.form + n = just_room _ _ _ c.check_room.ensures c.in_ok-check_room.was ∙ ap (λ j. j + n) few in
     let y = same_field M r _ w place _ _ _ c.write.ensures.answer c.in_ok-write.was c.write.ensures.after in
     let even : length w.field % 2 ≡ 0 = omega (arith, w.even, w.long) in
     let whole : length place ≡ 2 * fewest_pairs c.args.form + length w.field = omega (arith, w.long, room) in
