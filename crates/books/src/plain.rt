@@ -53,6 +53,7 @@ impl Book for PlainWords {
     }
 }
 
+// By index: after a `zip` with `chunks_exact_mut` a proof knows nothing of the place.
 /// Writes each number as a pair of bytes.
 fn put_words(list: &[i32], place: &mut [u8])
     requires fit { first_fail (within top_word) list.now ≡ None }

@@ -30,6 +30,7 @@ pub trait Cell: Copy {
         ensures { result ≡ twos_in of half number };
 }
 
+// Each width is written out: bodies that both could share would ask for more bounds than they have lines.
 impl Cell for u8 {
     ghost half = { byte_half };
 

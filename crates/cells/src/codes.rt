@@ -17,6 +17,7 @@ pub fn read_up_to<C: Cell>(cell: C, top: C, offset: usize) -> Result<i32, FieldF
     Ok(number)
 }
 
+// There and back are two functions, here and below: the faults differ in rule and place.
 /// The byte 0 or 128, at an offset, as 0 or 1.
 pub fn read_blanking(byte: u8, offset: usize) -> Result<i32, FieldFault>
     ensures { result ≡ or_fault ByteRange offset (bit_seven.number byte) }

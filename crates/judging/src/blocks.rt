@@ -9,7 +9,7 @@ use books::book::Book;
 use wire::blocks::{Head, read_head};
 
 /// A block's head and the count of its numbers.
-#[derive(Clone, Copy)]
+#[derive(Clone, Copy, PartialEq, Eq, Debug)]
 pub struct Found {
     pub head: Head,
     pub numbers: usize,

@@ -107,7 +107,7 @@ impl Place {
     }
 }
 
-/// A fault of the count stands at block 0 and byte 0.
+/// A fault of the count, which no block has, stands at block 0 and byte 0.
 impl From<BlockFault> for ReceiptFault {
     ghost from_gives = { λ f r. r ≡ located 0 0 f };
 

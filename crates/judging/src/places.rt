@@ -37,6 +37,7 @@ pub const END: Modes = Modes {
     submode: 2,
 };
 
+// This and the next are the definitions' names for two comparisons.
 /// Block 1/1.
 pub fn is_identification(modes: Modes) -> bool
     ensures { result ≡ is_identification modes.mode modes.submode }

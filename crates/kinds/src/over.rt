@@ -15,6 +15,7 @@ pub struct Over<K, B> {
     pub below: B,
 }
 
+// A function, so that the four questions share one proof of it.
 fn is_own<K: Kind>(modes: Modes) -> bool
     ensures { result ≡ settles K.MODES.mode K.MODES.submode modes.mode modes.submode }
 {

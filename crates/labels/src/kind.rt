@@ -32,6 +32,7 @@ impl Kind for Labels {
     }
 
     fn number(&self, field: &[u8], index: usize) -> Option<i32> {
+        // A match: an `Option` from `number_at` would wrap each of its arms.
         match self.judge(field) {
             Ok(count) if index < count => Some(number_at(field, index)),
             _ => None,

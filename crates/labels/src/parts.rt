@@ -14,6 +14,7 @@ use wire::pairs::worth;
 /// The bytes, and the numbers, before the characters.
 pub(crate) const HEAD: usize = 7;
 
+// Each kind tests a length by itself: the bounds come from its own layout.
 /// Checks the length of a data field or a list, and gives how many characters it has.
 pub(crate) fn check_length(length: usize, rule: Rule) -> Result<usize, FieldFault>
     ensures { result ≡ or_fault rule length (fitted labels.many 7 1 length) }

@@ -5,7 +5,7 @@ ghost use Rattle.memory.specs.Laid.{zeros, laid, has_room, gapped};
 ghost use Rattle.std.specs.Prelude.{◌≡◌, ◌+◌, ◌≤◌, length, take, drop, is_ok};
 
 /// A part of a memory, from its first byte to before its last.
-#[derive(Clone, Copy)]
+#[derive(Clone, Copy, PartialEq, Eq, Debug)]
 pub struct Part {
     pub from: usize,
     pub to: usize,

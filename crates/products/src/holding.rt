@@ -1,4 +1,5 @@
 // Whether a memory holds a product.
+// That a held product lies within the memory stands in a clause of each function here: no type holds both.
 ghost use Rattle.products.specs.Holding.{is_held, held_open};
 ghost use Rattle.products.specs.Closings.{end_of};
 ghost use Rattle.products.specs.Opens.{passes};

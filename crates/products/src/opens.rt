@@ -9,6 +9,8 @@ use judging::blocks::judge_block;
 use judging::faults::{BlockFault, Place, ReceiptFault};
 use judging::places::Phase;
 
+// Apart from the walk of a receipt: this one goes by the count of blocks and the other to the end, and the places at
+// which they tell 13 and 14 differ. `at` is the byte that a fault tells, and no index of an element.
 fn walk_open<B: Book>(bytes: &[u8], blocks: usize, book: &B) -> Result<(), ReceiptFault>
     ensures { result ≡ passes (open_walk (B.meaning book.now) blocks 0 0 0 0 bytes.now) }
 {

@@ -15,7 +15,7 @@ use wire::modes::Modes;
 use wire::rows::skip_blocks;
 
 /// What a product tells of a block.
-#[derive(Clone, Copy)]
+#[derive(Clone, Copy, PartialEq, Eq, Debug)]
 pub struct Facts {
     /// The block's first byte.
     pub at: usize,

@@ -17,13 +17,14 @@ use wire::modes::Modes;
 /// What a caller wants written: a form by its number, a mode, a submode and a list.
 #[derive(Clone, Copy)]
 pub struct Record<'a> {
+    // Any number: one that no form has is refused.
     pub form: u8,
     pub modes: Modes,
     pub numbers: &'a [i32],
 }
 
 /// The form of a record that may be written, and how many bytes its block takes.
-#[derive(Clone, Copy)]
+#[derive(Clone, Copy, PartialEq, Eq, Debug)]
 pub struct Draft {
     pub form: Form,
     pub size: usize,
@@ -36,6 +37,7 @@ fn most_data(form: Form) -> usize
     2 * usize::from(MOST_PAIRS.saturating_sub(form.fewest_pairs()))
 }
 
+// `misfit` is a test that stands between two others: which test it is depends on the call.
 /// Checks a record that would become that block of a product; `misfit` says that it may not stand there.
 #[tactic(auto, unfolding(crate::specs::Drafts::drafted))]
 pub fn check_record<B: Book>(

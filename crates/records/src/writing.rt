@@ -48,6 +48,7 @@ fn put_end(place: &mut [u8], form: Form)
     }
 }
 
+// `form` is what the number in `given` was found to be: it is checked once, before there is a place.
 /// Writes a record in that form as its block into a place of just its bytes; a refusal leaves the place as it was.
 pub fn write_block<B: Book>(
     place: &mut [u8],

@@ -24,6 +24,7 @@ impl Cell<7> for OctalLine {
 
     ghost cell = { octal_line };
 
+    // Digit by digit: `write!` into a buffer may fail, and a sink with space may not.
     fn bytes(pair: u16) -> [u8; 7] {
         [
             digit(pair, 0o100_000),

@@ -36,6 +36,7 @@ fn fill<C: Cell<WIDTH> + Drop, const WIDTH: usize>(
     put_all(bytes, &mut CellSink::<C, WIDTH>::new(out))
 }
 
+// This and the next are names of `fill` for callers who want no type arguments.
 /// Writes all pairs as lines into `out` and tells their number, or leaves it as it is.
 pub fn print_pairs(bytes: &[u8], out: &mut [u8]) -> Result<usize, Full>
     ensures answer { result ≡ sent (places 7 0 (length out.old)) (length (pairs bytes.now)) }

@@ -19,6 +19,7 @@ pub trait Text {
     fn fewest(&self) -> usize
         ensures { result ≡ (meaning self.now).fewest };
 
+    // Two facts of the place, which any text may ask in any order: an enum of the four cases would be no plainer.
     /// The rule that a character breaks: `last` says that none follows, `nul` that the text ends in NUL.
     fn broken_rule(&self, character: u8, last: bool, nul: bool) -> Option<Rule>
         ensures { result ≡ (meaning self.now).breaks last nul character };

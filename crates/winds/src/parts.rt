@@ -43,7 +43,7 @@ pub(crate) fn check_bytes(field: &[u8]) -> Result<(), FieldFault>
     Ok(())
 }
 
-// Apart from `check_bytes`: a trait that tells how a barb is read from its cells would be longer than both.
+// Apart from `check_bytes`: a trait for how a barb is read would be longer than both, and a closure would put its own contract into this one.
 /// Checks the barbs of a list.
 pub(crate) fn check_numbers(list: &[i32]) -> Result<(), FieldFault>
     requires { (2 ≤ length list.now) × (length list.now ≤ 2456) }

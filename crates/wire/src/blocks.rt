@@ -49,7 +49,7 @@ impl Malformed {
 }
 
 /// What the first two pairs of a block tell.
-#[derive(Clone, Copy)]
+#[derive(Clone, Copy, PartialEq, Eq, Debug)]
 pub struct Head {
     pub form: Form,
     /// LENGTH, the number of all pairs of the block.
