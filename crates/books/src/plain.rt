@@ -4,9 +4,9 @@ ghost use Rattle.books.specs.WordLaws.{plain_lawful};
 ghost use Rattle.books.specs.Words.{plain, word_bytes, within, top_word};
 ghost use Rattle.std.specs.Prelude.{◌≡◌, ◌*◌, length, None};
 
-use crate::book::{Book, MOST_BYTES};
+use crate::book::Book;
 use crate::faults::{FieldFault, Rule};
-use crate::room::check_room;
+use crate::room::{check_room, is_bad_length};
 use crate::scan::first_outside;
 use wire::modes::Modes;
 
@@ -23,7 +23,7 @@ impl Book for PlainWords {
     ghost lawful = { λ _. plain_lawful };
 
     fn judge(&self, _modes: Modes, field: &[u8]) -> Result<usize, FieldFault> {
-        if field.len() % 2 != 0 || field.len() > MOST_BYTES {
+        if is_bad_length(field.len()) {
             return Err(Rule::DataLength.at(field.len()));
         }
         Ok(field.len() / 2)

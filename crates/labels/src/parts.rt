@@ -4,8 +4,8 @@ ghost use Rattle.cells.specs.Cells.{or_fault};
 ghost use Rattle.cells.specs.Layouts.{fitted};
 ghost use Rattle.std.specs.Prelude.{◌≡◌, ◌<◌, ◌≤◌, List, map, length, take, ℤ, pos, Ok, slice_index_or};
 
-use books::book::MOST_BYTES;
 use books::faults::{FieldFault, Rule};
+use books::room::is_bad_length;
 use cells::cell::Cell;
 use cells::characters::{Element, first_outside};
 use cells::codes::{read_flags, write_flags, write_signed};
@@ -14,12 +14,11 @@ use wire::pairs::worth;
 /// The bytes, and the numbers, before the characters.
 pub(crate) const HEAD: usize = 7;
 
-// Each kind tests a length by itself: the bounds come from its own layout.
 /// Checks the length of a data field or a list, and gives how many characters it has.
 pub(crate) fn check_length(length: usize, rule: Rule) -> Result<usize, FieldFault>
     ensures { result ≡ or_fault rule length (fitted labels.many 7 1 length) }
 {
-    if length % 2 != 0 || length <= HEAD || length > MOST_BYTES {
+    if is_bad_length(length) || length <= HEAD {
         return Err(rule.at(length));
     }
     Ok(length - HEAD)

@@ -5,8 +5,8 @@ ghost use Rattle.wire.specs.Steps.{refuse};
 ghost use Rattle.std.specs.Prelude.{◌≡◌, map, length};
 
 use crate::text::{NUL, Text};
-use books::book::MOST_BYTES;
 use books::faults::{FieldFault, Rule};
+use books::room::is_bad_length;
 use cells::characters::Element;
 
 /// The rules whose number depends on where a text stands.
@@ -42,7 +42,7 @@ pub fn check<T: Text, E: Element>(text: &T, elements: &[E], rules: Rules) -> Res
 fn check_length(length: usize, fewest: usize, rule: Rule) -> Result<(), FieldFault>
     ensures { result ≡ refuse (lacks fewest length) (fault_at rule length) }
 {
-    if length % 2 != 0 || length > MOST_BYTES || length < fewest {
+    if is_bad_length(length) || length < fewest {
         return Err(rule.at(length));
     }
     Ok(())
