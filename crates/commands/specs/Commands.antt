@@ -6,14 +6,23 @@ use Rattle.commands.specs.declared.command.Command.TheVariants.{Memory, Start, R
 use Rattle.replay.specs.declared.steps.Step.{Step as Call}
 use Rattle.replay.specs.declared.steps.Step.TheVariants.{Add, Replace, Withdraw, Close, Reopen, Send}
 
+-- the calls that a script can make: it sends nothing
+abbrev pub InScript : Call → Type 0
+InScript (Add e) = Unit {0}
+InScript (Replace k e) = Unit {0}
+InScript (Withdraw k) = Unit {0}
+InScript Close = Unit {0}
+InScript Reopen = Unit {0}
+InScript Send = ⊥
+
 -- no command asks for more memory than a script may have
 abbrev pub InBounds : Command → Type 0
 InBounds (Memory n) = n ≤ 1048576
 InBounds (Start o) = Unit {0}
 InBounds (Receive bs) = Unit {0}
-InBounds (Step s) = Unit {0}
+InBounds (Step s) = InScript s
 
--- the word that a command's line begins with; no line is read as a sending
+-- the word that a command's line begins with
 abbrev pub step_word : Call → List ℕ
 step_word (Add e) = codes "add"
 step_word (Replace k e) = codes "replace"

@@ -1,5 +1,5 @@
 // The commands of a script.
-ghost use Rattle.commands.specs.Commands.{InBounds, Begins, step_word, word_of};
+ghost use Rattle.commands.specs.Commands.{InBounds, InScript, Begins, step_word, word_of};
 ghost use Rattle.std.specs.Prelude.{◌≡◌, IfOk, codes};
 
 use crate::faults::ScriptFault;
@@ -102,7 +102,8 @@ fn read_entry(heap: Global, mut words: Split<'_, char>) -> Result<Entry, ScriptF
 }
 
 fn read_replace(heap: Global, mut words: Split<'_, char>) -> Result<Step, ScriptFault>
-    ensures { IfOk result (λ s. step_word s ≡ codes "replace") }
+    ensures script { IfOk result InScript }
+    ensures word { IfOk result (λ s. step_word s ≡ codes "replace") }
 {
     let block = read_natural(next_word(&mut words)?, Base::Decimal)?;
     let entry = read_entry(heap, words)?;
@@ -110,7 +111,8 @@ fn read_replace(heap: Global, mut words: Split<'_, char>) -> Result<Step, Script
 }
 
 fn read_withdraw(mut words: Split<'_, char>) -> Result<Step, ScriptFault>
-    ensures { IfOk result (λ s. step_word s ≡ codes "withdraw") }
+    ensures script { IfOk result InScript }
+    ensures word { IfOk result (λ s. step_word s ≡ codes "withdraw") }
 {
     let block = read_natural(next_word(&mut words)?, Base::Decimal)?;
     no_more(words)?;
@@ -126,7 +128,8 @@ fn read_bare(words: Split<'_, char>, step: Step) -> Result<Step, ScriptFault>
 }
 
 fn read_step(heap: Global, word: &str, words: Split<'_, char>) -> Result<Step, ScriptFault>
-    ensures { IfOk result (λ s. step_word s ≡ word.now) }
+    ensures script { IfOk result InScript }
+    ensures word { IfOk result (λ s. step_word s ≡ word.now) }
 {
     match word {
         "add" => Ok(Step::Add(read_entry(heap, words)?)),
