@@ -1,4 +1,4 @@
-// Cells: what data fields with a fixed layout share.
+// What the kinds share: cells, rows, layouts, two's complement, and characters of 7 bits.
 #![tactic(auto)]
 
 pub mod cell;
