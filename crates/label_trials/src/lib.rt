@@ -3,25 +3,22 @@
 
 #[cfg(test)]
 mod tests {
-    use books::faults::{FieldFault, Rule};
+    use books::faults::Rule;
     use kinds::kind::Kind;
     use labels::kind::Labels;
-    use std::process::Abort;
+    use trial_tools::{leaves, put_two};
+    use wire::modes::Modes;
 
     // One more than a length that is too long.
     const MOST: usize = 4_095;
 
     #[test]
     fn labels_have_mode_5_and_submode_1(rt: HostRuntime) {
-        assert_eq!(rt; Labels::MODES.mode, 5);
-        assert_eq!(rt; Labels::MODES.submode, 1);
-    }
-
-    // Puts two bytes or numbers at their places.
-    fn put_two<T: Copy>(rt: &impl Abort, cells: &mut [T], first: (usize, T), second: (usize, T)) {
-        assert!(rt; first.0 < cells.len() && second.0 < cells.len());
-        cells[first.0] = first.1;
-        cells[second.0] = second.1;
+        let modes = Modes {
+            mode: 5,
+            submode: 1,
+        };
+        assert_eq!(rt; Labels::MODES, modes);
     }
 
     // A field of zeros in which two bytes are put.
@@ -54,7 +51,7 @@ mod tests {
         ];
         for (length, first, second, want) in &cases {
             let mut field = [0; MOST];
-            put_two(&rt, &mut field, *first, *second);
+            assert_eq!(rt; put_two(&mut field, *first, *second), Ok(()));
             assert!(rt; *length <= MOST);
             assert_eq!(rt; Labels.judge(&field[0..*length]), *want);
         }
@@ -103,7 +100,7 @@ mod tests {
         ];
         for (length, first, second, want) in &cases {
             let mut list = [0; MOST];
-            put_two(&rt, &mut list, *first, *second);
+            assert_eq!(rt; put_two(&mut list, *first, *second), Ok(()));
             assert!(rt; *length <= MOST);
             assert_eq!(rt; Labels.weigh(&list[0..*length]), *want);
         }
@@ -135,39 +132,36 @@ mod tests {
         ];
         for (first, second) in &cases {
             let mut list = [0; 4_092];
-            put_two(&rt, &mut list, *first, *second);
+            assert_eq!(rt; put_two(&mut list, *first, *second), Ok(()));
             assert_eq!(rt; Labels.weigh(&list), Err(Rule::NumberRange.at(first.0)));
         }
     }
 
-    // Writes ten numbers, and looks at the place.
-    fn write_case(
-        rt: &impl Abort,
-        last: i32,
-        place: &mut [u8],
-        answer: Result<(), FieldFault>,
-        after: &[u8],
-    ) {
-        let list = [-32_768, 258, -128, 127, 1, 0, 63, 65, 0, last];
-        assert_eq!(rt; Labels.write(&list, place), answer);
-        assert_eq!(rt; &place[0..], after);
-    }
-
     #[test]
     fn write_fills_a_place_of_its_weight_alone(rt: HostRuntime) {
+        let list = |last: i32| [-32_768, 258, -128, 127, 1, 0, 63, 65, 0, last];
         let short = Err(Rule::DataLength.at(8));
         let long = Err(Rule::DataLength.at(12));
         let range = Err(Rule::NumberRange.at(9));
-        write_case(
-            &rt,
-            127,
-            &mut [9; 10],
-            Ok(()),
-            &[128, 0, 1, 2, 128, 127, 0b1011_1111, 65, 0, 127],
+        assert_eq!(rt;
+            leaves([9; 10], |place| Labels.write(&list(127), place)),
+            (Ok(()), [128, 0, 1, 2, 128, 127, 0b1011_1111, 65, 0, 127])
         );
-        write_case(&rt, 127, &mut [9; 8], short, &[9; 8]);
-        write_case(&rt, 127, &mut [9; 12], long, &[9; 12]);
-        write_case(&rt, 128, &mut [9; 10], range, &[9; 10]);
-        write_case(&rt, -1, &mut [9; 8], range, &[9; 8]);
+        assert_eq!(rt;
+            leaves([9; 8], |place| Labels.write(&list(127), place)),
+            (short, [9; 8])
+        );
+        assert_eq!(rt;
+            leaves([9; 12], |place| Labels.write(&list(127), place)),
+            (long, [9; 12])
+        );
+        assert_eq!(rt;
+            leaves([9; 10], |place| Labels.write(&list(128), place)),
+            (range, [9; 10])
+        );
+        assert_eq!(rt;
+            leaves([9; 8], |place| Labels.write(&list(-1), place)),
+            (range, [9; 8])
+        );
     }
 }

@@ -1,0 +1,20 @@
+-- Words that stand for repetitions.
+use Rattle.std.specs.Prelude.{◌≡◌, ◌==◌, ℕ, Bool, ◌<◌, ◌++◌, List, length, Ok}
+use Rattle.std.specs.List.{repeat, position_or_len, before_first, after_first}
+use Rattle.std.specs.Str.Parse.{digits_value, without_leading_plus}
+use Rattle.hex.specs.Hex.{decode_of}
+
+-- a byte is `*`
+abbrev pub is_star : ℕ → Bool
+is_star b = b == 42
+
+-- a word is `N*PART`, or a part that stands there once
+abbrev pub Repeats : List ℕ → ℕ → List ℕ → Type 0
+Repeats word n part =
+    (position_or_len is_star word ≡ length word → (n ≡ 1) × (part ≡ word))
+    × (position_or_len is_star word < length word → (n ≡ digits_value 10 (without_leading_plus (before_first is_star word))) × (part ≡ after_first is_star word))
+
+-- the bytes after are those before, and behind them those of the word's hex digits, as often as it says
+abbrev pub Appends : List ℕ → List ℕ → List ℕ → Type 0
+Appends word before after = (n : ℕ) × (digits : List ℕ) × (piece : List ℕ)
+    × Repeats word n digits × (decode_of digits ≡ Ok piece) × (after ≡ before ++ repeat n piece)
