@@ -4,9 +4,9 @@
 #[cfg(test)]
 mod tests {
     use books::book::Book;
-    use books::faults::{FieldFault, Rule};
+    use books::faults::Rule;
     use books::plain::PlainWords;
-    use std::process::Abort;
+    use trial_tools::{leaves, put_two};
     use wire::modes::Modes;
 
     // The plain-word book answers alike at every mode and submode.
@@ -80,24 +80,10 @@ mod tests {
         ];
         for (length, first, second, want) in &cases {
             let mut list = [0; 2_047];
-            assert!(rt; *length <= 2_047 && first.0 < 2_047 && second.0 < 2_047);
-            list[first.0] = first.1;
-            list[second.0] = second.1;
+            assert_eq!(rt; put_two(&mut list, *first, *second), Ok(()));
+            assert!(rt; *length <= 2_047);
             assert_eq!(rt; PlainWords.weigh(MODES, &list[0..*length]), *want);
         }
-    }
-
-    // Writes three numbers, and looks at the place.
-    fn write_case(
-        rt: &impl Abort,
-        middle: i32,
-        place: &mut [u8],
-        answer: Result<(), FieldFault>,
-        after: &[u8],
-    ) {
-        let list = [258, middle, 65_535];
-        assert_eq!(rt; PlainWords.write(MODES, &list, place), answer);
-        assert_eq!(rt; &place[0..], after);
     }
 
     #[test]
@@ -105,10 +91,17 @@ mod tests {
         let short = Err(Rule::DataLength.at(4));
         let long = Err(Rule::DataLength.at(8));
         let range = Err(Rule::NumberRange.at(1));
-        write_case(&rt, 3, &mut [9; 6], Ok(()), &[1, 2, 0, 3, 255, 255]);
-        write_case(&rt, 3, &mut [9; 4], short, &[9; 4]);
-        write_case(&rt, 3, &mut [9; 8], long, &[9; 8]);
-        write_case(&rt, -1, &mut [9; 6], range, &[9; 6]);
-        write_case(&rt, 65_536, &mut [9; 8], range, &[9; 8]);
+        let write = |middle: i32, place: &mut [u8]| {
+            PlainWords.write(MODES, &[258, middle, 65_535], place)
+        };
+        let written = (Ok(()), [1, 2, 0, 3, 255, 255]);
+        assert_eq!(rt; leaves([9; 6], |place| write(3, place)), written);
+        assert_eq!(rt; leaves([9; 4], |place| write(3, place)), (short, [9; 4]));
+        assert_eq!(rt; leaves([9; 8], |place| write(3, place)), (long, [9; 8]));
+        assert_eq!(rt; leaves([9; 6], |place| write(-1, place)), (range, [9; 6]));
+        assert_eq!(rt;
+            leaves([9; 8], |place| write(65_536, place)),
+            (range, [9; 8])
+        );
     }
 }

@@ -6,46 +6,36 @@ mod tests {
     use books::faults::{FieldFault, Rule};
     use kinds::kind::Kind;
     use std::process::Abort;
-    use std::test::Fail;
     use texts::characters::Characters;
     use texts::message::Message;
     use texts::routing::Routing;
+    use trial_tools::leaves;
 
     const MESSAGE: Characters<Message> = Characters { text: Message };
 
     const ROUTING: Characters<Routing> = Characters { text: Routing };
 
-    // A broken rule in a data field, and its place; none for a text without a fault.
-    type Want = Option<(Rule, usize)>;
+    // What is wrong with a text as a data field.
+    type Want = Result<(), FieldFault>;
 
-    // The rule of a list that answers to one of a data field.
-    fn in_list(rule: Rule) -> Rule {
-        match rule {
+    // The fault of a list that answers to one of a data field.
+    fn in_list(fault: FieldFault) -> FieldFault {
+        let rule = match fault.rule {
             Rule::DataLength => Rule::ListLength,
             Rule::ByteRange => Rule::NumberRange,
             other => other,
-        }
+        };
+        rule.at(fault.place)
     }
 
-    fn check_answers<K: Kind>(
-        rt: &impl Abort,
-        kind: &K,
-        field: &[u8],
-        list: &[i32],
-        want: Want,
-    ) -> Result<(), Fail> {
-        match want {
-            Some((rule, place)) => {
-                assert_eq!(rt; kind.judge(field), Err(rule.at(place)));
-                assert_eq!(rt; kind.number(field, 0), None);
-                assert_eq!(rt; kind.weigh(list), Err(in_list(rule).at(place)));
-                Ok(())
-            }
-            None => {
-                assert_eq!(rt; kind.judge(field), Ok(field.len()));
-                assert_eq!(rt; kind.weigh(list), Ok(list.len()));
-                Ok(())
-            }
+    fn check_answers<K: Kind>(rt: &impl Abort, kind: &K, field: &[u8], list: &[i32], want: Want) {
+        assert_eq!(rt; kind.judge(field), want.map(|()| field.len()));
+        assert_eq!(rt;
+            kind.weigh(list),
+            want.map(|()| list.len()).map_err(in_list)
+        );
+        if want.is_err() {
+            assert_eq!(rt; kind.number(field, 0), None);
         }
     }
 
@@ -54,76 +44,71 @@ mod tests {
         u8::try_from(number).unwrap_or(255)
     }
 
-    fn check_rows<K: Kind>(
-        rt: &impl Abort,
-        kind: &K,
-        rows: &[([i32; 4], Want)],
-    ) -> Result<(), Fail> {
+    fn check_rows<K: Kind>(rt: &impl Abort, kind: &K, rows: &[([i32; 4], Want)]) {
         for (list, want) in rows {
-            check_answers(rt, kind, &list.map(byte), list, *want)?;
+            check_answers(rt, kind, &list.map(byte), list, *want);
         }
-        Ok(())
     }
 
     #[test]
-    fn routing_takes_any_character(rt: HostRuntime) -> Result<(), Fail> {
+    fn routing_takes_any_character(rt: HostRuntime) {
         let rows = [
-            ([65, 66, 67, 68], None),
-            ([0, 3, 23, 30], None),
-            ([127, 0, 30, 0], None),
-            ([128, 65, 65, 65], Some((Rule::ByteRange, 0))),
-            ([65, -1, 65, 65], Some((Rule::ByteRange, 1))),
-            ([65, 65, 65, 255], Some((Rule::ByteRange, 3))),
-            ([65, 65, i32::MIN, i32::MAX], Some((Rule::ByteRange, 2))),
-            ([65, 256, 65, 128], Some((Rule::ByteRange, 1))),
+            ([65, 66, 67, 68], Ok(())),
+            ([0, 3, 23, 30], Ok(())),
+            ([127, 0, 30, 0], Ok(())),
+            ([128, 65, 65, 65], Err(Rule::ByteRange.at(0))),
+            ([65, -1, 65, 65], Err(Rule::ByteRange.at(1))),
+            ([65, 65, 65, 255], Err(Rule::ByteRange.at(3))),
+            ([65, 65, i32::MIN, i32::MAX], Err(Rule::ByteRange.at(2))),
+            ([65, 256, 65, 128], Err(Rule::ByteRange.at(1))),
         ];
-        check_rows(&rt, &ROUTING, &rows)
+        check_rows(&rt, &ROUTING, &rows);
     }
 
     #[test]
-    fn message_ends_once(rt: HostRuntime) -> Result<(), Fail> {
+    fn message_ends_once(rt: HostRuntime) {
         let rows = [
-            ([65, 127, 1, 0], None),
-            ([2, 4, 22, 3], None),
-            ([24, 29, 31, 23], None),
-            ([0, 65, 65, 0], Some((Rule::EarlyEnd, 0))),
-            ([65, 3, 65, 0], Some((Rule::EarlyEnd, 1))),
-            ([65, 65, 23, 0], Some((Rule::EarlyEnd, 2))),
-            ([65, 65, 65, 65], Some((Rule::WrongEnd, 3))),
-            ([65, 65, 65, 1], Some((Rule::WrongEnd, 3))),
-            ([65, 65, 65, 30], Some((Rule::WrongEnd, 3))),
-            ([65, 65, 65, 127], Some((Rule::WrongEnd, 3))),
+            ([65, 127, 1, 0], Ok(())),
+            ([2, 4, 22, 3], Ok(())),
+            ([24, 29, 31, 23], Ok(())),
+            ([0, 65, 65, 0], Err(Rule::EarlyEnd.at(0))),
+            ([65, 3, 65, 0], Err(Rule::EarlyEnd.at(1))),
+            ([65, 65, 23, 0], Err(Rule::EarlyEnd.at(2))),
+            ([65, 65, 65, 65], Err(Rule::WrongEnd.at(3))),
+            ([65, 65, 65, 1], Err(Rule::WrongEnd.at(3))),
+            ([65, 65, 65, 30], Err(Rule::WrongEnd.at(3))),
+            ([65, 65, 65, 127], Err(Rule::WrongEnd.at(3))),
         ];
-        check_rows(&rt, &MESSAGE, &rows)
+        check_rows(&rt, &MESSAGE, &rows);
     }
 
     #[test]
-    fn separators_stand_in_texts_without_nul(rt: HostRuntime) -> Result<(), Fail> {
+    fn separators_stand_in_texts_without_nul(rt: HostRuntime) {
         let rows = [
-            ([30, 30, 30, 3], None),
-            ([30, 65, 30, 23], None),
-            ([30, 65, 65, 0], Some((Rule::StraySeparator, 0))),
-            ([65, 30, 65, 0], Some((Rule::StraySeparator, 1))),
-            ([65, 65, 30, 0], Some((Rule::StraySeparator, 2))),
+            ([30, 30, 30, 3], Ok(())),
+            ([30, 65, 30, 23], Ok(())),
+            ([30, 65, 65, 0], Err(Rule::StraySeparator.at(0))),
+            ([65, 30, 65, 0], Err(Rule::StraySeparator.at(1))),
+            ([65, 65, 30, 0], Err(Rule::StraySeparator.at(2))),
         ];
-        check_rows(&rt, &MESSAGE, &rows)
+        check_rows(&rt, &MESSAGE, &rows);
     }
 
     #[test]
-    fn the_first_fault_wins(rt: HostRuntime) -> Result<(), Fail> {
+    fn the_first_fault_wins(rt: HostRuntime) {
         let rows = [
-            ([128, 0, 30, 0], Some((Rule::ByteRange, 0))),
-            ([65, -1, 30, 0], Some((Rule::ByteRange, 1))),
-            ([65, 65, 65, 128], Some((Rule::ByteRange, 3))),
-            ([65, 65, 65, -1], Some((Rule::ByteRange, 3))),
-            ([3, 128, 65, 65], Some((Rule::EarlyEnd, 0))),
-            ([65, 23, 30, 0], Some((Rule::EarlyEnd, 1))),
-            ([65, 0, 65, 65], Some((Rule::EarlyEnd, 1))),
-            ([30, 0, 128, 0], Some((Rule::StraySeparator, 0))),
-            ([65, 30, 0, 65], Some((Rule::EarlyEnd, 2))),
-            ([65, 65, 30, 256], Some((Rule::ByteRange, 3))),
+            ([128, 0, 30, 0], Err(Rule::ByteRange.at(0))),
+            ([65, -1, 30, 0], Err(Rule::ByteRange.at(1))),
+            ([65, 65, 65, 128], Err(Rule::ByteRange.at(3))),
+            ([65, 65, 65, -1], Err(Rule::ByteRange.at(3))),
+            ([3, 128, 65, 65], Err(Rule::EarlyEnd.at(0))),
+            ([65, 23, 30, 0], Err(Rule::EarlyEnd.at(1))),
+            ([65, 0, 65, 65], Err(Rule::EarlyEnd.at(1))),
+            ([30, 0, 128, 0], Err(Rule::StraySeparator.at(0))),
+            ([65, 30, 0, 65], Err(Rule::EarlyEnd.at(2))),
+            ([65, 65, 30, 256], Err(Rule::ByteRange.at(3))),
         ];
-        check_rows(&rt, &MESSAGE, &rows)
+        check_rows(&rt, &MESSAGE, &rows);
     }
 
     // Letters that end in ETX, of which one is another number.
@@ -134,7 +119,7 @@ mod tests {
         place: usize,
         number: i32,
         want: Want,
-    ) -> Result<(), Fail> {
+    ) {
         let mut list = [65; 4_094];
         let mut field = [65; 4_094];
         assert!(rt; length <= 4_094 && place < 4_094);
@@ -144,11 +129,11 @@ mod tests {
         }
         list[place] = number;
         field[place] = byte(number);
-        check_answers(rt, kind, &field[0..length], &list[0..length], want)
+        check_answers(rt, kind, &field[0..length], &list[0..length], want);
     }
 
     #[test]
-    fn lengths(rt: HostRuntime) -> Result<(), Fail> {
+    fn lengths(rt: HostRuntime) {
         let cases = [
             (0, true, false),
             (1, false, false),
@@ -160,45 +145,36 @@ mod tests {
             (4_094, false, false),
         ];
         for (length, routing, message) in &cases {
-            let bad = Some((Rule::DataLength, *length));
+            let length = *length;
+            let want = |taken: &bool| {
+                if *taken {
+                    Ok(())
+                } else {
+                    Err(Rule::DataLength.at(length))
+                }
+            };
             // A number out of its range stands in a text whose length is refused: the length comes first.
             let number = if *routing { 65 } else { 128 };
-            check_long(
-                &rt,
-                &ROUTING,
-                *length,
-                0,
-                number,
-                if *routing { None } else { bad },
-            )?;
-            check_long(
-                &rt,
-                &MESSAGE,
-                *length,
-                0,
-                number,
-                if *message { None } else { bad },
-            )?;
+            check_long(&rt, &ROUTING, length, 0, number, want(routing));
+            check_long(&rt, &MESSAGE, length, 0, number, want(message));
         }
-        Ok(())
     }
 
     #[test]
-    fn the_last_places_of_long_texts(rt: HostRuntime) -> Result<(), Fail> {
+    fn the_last_places_of_long_texts(rt: HostRuntime) {
         let cases = [
-            (4_090, 128, Some((Rule::ByteRange, 4_090))),
-            (4_091, -1, Some((Rule::ByteRange, 4_091))),
-            (4_090, 3, Some((Rule::EarlyEnd, 4_090))),
-            (4_091, 65, Some((Rule::WrongEnd, 4_091))),
-            (2_000, 23, Some((Rule::EarlyEnd, 2_000))),
-            (4_091, 23, None),
-            (4_090, 30, None),
-            (4_092, 128, None),
+            (4_090, 128, Err(Rule::ByteRange.at(4_090))),
+            (4_091, -1, Err(Rule::ByteRange.at(4_091))),
+            (4_090, 3, Err(Rule::EarlyEnd.at(4_090))),
+            (4_091, 65, Err(Rule::WrongEnd.at(4_091))),
+            (2_000, 23, Err(Rule::EarlyEnd.at(2_000))),
+            (4_091, 23, Ok(())),
+            (4_090, 30, Ok(())),
+            (4_092, 128, Ok(())),
         ];
         for (place, number, want) in &cases {
-            check_long(&rt, &MESSAGE, 4_092, *place, *number, *want)?;
+            check_long(&rt, &MESSAGE, 4_092, *place, *number, *want);
         }
-        Ok(())
     }
 
     #[test]
@@ -219,37 +195,39 @@ mod tests {
         assert_eq!(rt; ROUTING.number(&field[0..3], 0), None);
     }
 
-    // Writes a text, and looks at the place.
-    fn check_write(
-        rt: &impl Abort,
-        list: &[i32],
-        place: &mut [u8],
-        answer: Result<(), FieldFault>,
-        after: &[u8],
-    ) {
-        assert_eq!(rt; MESSAGE.write(list, place), answer);
-        assert_eq!(rt; &place[0..], after);
-    }
-
     #[test]
     fn write_fills_a_place_of_its_weight_alone(rt: HostRuntime) {
         let list = [65, 30, 127, 3];
         let short = Err(Rule::DataLength.at(2));
         let long = Err(Rule::DataLength.at(6));
         let none = Err(Rule::ListLength.at(0));
+        let early = Err(Rule::EarlyEnd.at(0));
         let end = Err(Rule::WrongEnd.at(1));
-        check_write(&rt, &list, &mut [9; 4], Ok(()), &[65, 30, 127, 3]);
-        check_write(&rt, &list, &mut [9; 2], short, &[9; 2]);
-        check_write(&rt, &list, &mut [9; 6], long, &[9; 6]);
-        check_write(&rt, &[], &mut [9; 2], none, &[9; 2]);
-        check_write(
-            &rt,
-            &[3, 65],
-            &mut [9; 2],
-            Err(Rule::EarlyEnd.at(0)),
-            &[9; 2],
+        let written = (Ok(()), [65, 30, 127, 3]);
+        assert_eq!(rt;
+            leaves([9; 4], |place| MESSAGE.write(&list, place)),
+            written
         );
-        check_write(&rt, &[65, 65], &mut [9; 4], end, &[9; 4]);
+        assert_eq!(rt;
+            leaves([9; 2], |place| MESSAGE.write(&list, place)),
+            (short, [9; 2])
+        );
+        assert_eq!(rt;
+            leaves([9; 6], |place| MESSAGE.write(&list, place)),
+            (long, [9; 6])
+        );
+        assert_eq!(rt;
+            leaves([9; 2], |place| MESSAGE.write(&[], place)),
+            (none, [9; 2])
+        );
+        assert_eq!(rt;
+            leaves([9; 2], |place| MESSAGE.write(&[3, 65], place)),
+            (early, [9; 2])
+        );
+        assert_eq!(rt;
+            leaves([9; 4], |place| MESSAGE.write(&[65, 65], place)),
+            (end, [9; 4])
+        );
         assert_eq!(rt; ROUTING.write(&[], &mut []), Ok(()));
     }
 }

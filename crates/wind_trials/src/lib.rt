@@ -8,6 +8,7 @@ mod tests {
     use cells::codes::{read_flags, write_flags, write_signed};
     use kinds::kind::Kind;
     use std::process::Abort;
+    use trial_tools::{leaves, put_two};
     use winds::kind::Winds;
 
     // The shaft length, the blanking byte, and two barbs at the ends of their ranges.
@@ -51,42 +52,34 @@ mod tests {
         }
     }
 
-    // A field of zeros in which two bytes are put, and the offset of its fault.
+    // A field of zeros in which two bytes are put.
     #[test]
     fn judge_tells_the_smallest_offset(rt: HostRuntime) {
         let cases = [
-            (0, 255, 1, 128, None),
-            (1, 1, 6, 255, Some(1)),
-            (1, 127, 2, 255, Some(1)),
-            (1, 129, 4_091, 2, Some(1)),
-            (6, 1, 7, 104, None),
-            (6, 1, 7, 105, Some(6)),
-            (6, 2, 8, 128, Some(6)),
-            (8, 127, 9, 255, None),
-            (8, 128, 11, 2, Some(8)),
-            (10, 255, 11, 1, None),
-            (11, 2, 16, 255, Some(11)),
-            (2, 128, 5, 255, None),
-            (2_046, 1, 2_047, 105, Some(2_046)),
-            (2_048, 128, 2_056, 255, Some(2_048)),
-            (2_051, 2, 2_056, 255, Some(2_051)),
-            (4_086, 1, 4_087, 105, Some(4_086)),
-            (4_088, 128, 4_091, 2, Some(4_088)),
-            (4_090, 255, 4_091, 2, Some(4_091)),
-            (4_090, 255, 4_091, 1, None),
+            ((0, 255), (1, 128), Ok(2_456)),
+            ((1, 1), (6, 255), Err(Rule::ByteRange.at(1))),
+            ((1, 127), (2, 255), Err(Rule::ByteRange.at(1))),
+            ((1, 129), (4_091, 2), Err(Rule::ByteRange.at(1))),
+            ((6, 1), (7, 104), Ok(2_456)),
+            ((6, 1), (7, 105), Err(Rule::ByteRange.at(6))),
+            ((6, 2), (8, 128), Err(Rule::ByteRange.at(6))),
+            ((8, 127), (9, 255), Ok(2_456)),
+            ((8, 128), (11, 2), Err(Rule::ByteRange.at(8))),
+            ((10, 255), (11, 1), Ok(2_456)),
+            ((11, 2), (16, 255), Err(Rule::ByteRange.at(11))),
+            ((2, 128), (5, 255), Ok(2_456)),
+            ((2_046, 1), (2_047, 105), Err(Rule::ByteRange.at(2_046))),
+            ((2_048, 128), (2_056, 255), Err(Rule::ByteRange.at(2_048))),
+            ((2_051, 2), (2_056, 255), Err(Rule::ByteRange.at(2_051))),
+            ((4_086, 1), (4_087, 105), Err(Rule::ByteRange.at(4_086))),
+            ((4_088, 128), (4_091, 2), Err(Rule::ByteRange.at(4_088))),
+            ((4_090, 255), (4_091, 2), Err(Rule::ByteRange.at(4_091))),
+            ((4_090, 255), (4_091, 1), Ok(2_456)),
         ];
-        for (at, byte, also, more, want) in &cases {
+        for (first, second, want) in &cases {
             let mut field = [0; 4_092];
-            assert!(rt; *at < field.len() && *also < field.len());
-            field[*at] = *byte;
-            field[*also] = *more;
-            assert_eq!(rt;
-                Winds.judge(&field),
-                match want {
-                    Some(place) => Err(Rule::ByteRange.at(*place)),
-                    None => Ok(2_456),
-                }
-            );
+            assert_eq!(rt; put_two(&mut field, *first, *second), Ok(()));
+            assert_eq!(rt; Winds.judge(&field), *want);
         }
     }
 
@@ -121,7 +114,7 @@ mod tests {
         }
     }
 
-    // Weighs a list of zeros in which two numbers are put.
+    // Weighs a list of zeros in which two numbers are put, the first over the second.
     fn weigh_case(
         rt: &impl Abort,
         first: (usize, i32),
@@ -129,9 +122,7 @@ mod tests {
         want: Result<usize, FieldFault>,
     ) {
         let mut list = [0; 2_456];
-        assert!(rt; first.0 < list.len() && second.0 < list.len());
-        list[second.0] = second.1;
-        list[first.0] = first.1;
+        assert_eq!(rt; put_two(&mut list, second, first), Ok(()));
         assert_eq!(rt; Winds.weigh(&list), want);
     }
 
@@ -187,33 +178,21 @@ mod tests {
         }
     }
 
-    // Writes two barbs with a number changed, and looks at the place.
-    fn write_case(
-        rt: &impl Abort,
-        changed: i32,
-        place: &mut [u8],
-        answer: Result<(), FieldFault>,
-        after: &[u8],
-    ) {
-        let mut list = LIST;
-        list[7] = changed;
-        assert_eq!(rt; Winds.write(&list, place), answer);
-        assert_eq!(rt; &place[0..], after);
-    }
-
     #[test]
     fn write_fills_a_place_of_its_weight_alone(rt: HostRuntime) {
-        write_case(&rt, 0, &mut [9; 22], Ok(()), &FIELD);
-        write_case(&rt, 0, &mut [9; 12], Err(Rule::DataLength.at(12)), &[9; 12]);
-        write_case(&rt, 0, &mut [9; 32], Err(Rule::DataLength.at(32)), &[9; 32]);
-        write_case(&rt, 2, &mut [9; 22], Err(Rule::NumberRange.at(7)), &[9; 22]);
-        write_case(
-            &rt,
-            -1,
-            &mut [9; 12],
-            Err(Rule::NumberRange.at(7)),
-            &[9; 12],
-        );
+        let short = Err(Rule::DataLength.at(12));
+        let long = Err(Rule::DataLength.at(32));
+        let range = Err(Rule::NumberRange.at(7));
+        let write = |changed: i32, place: &mut [u8]| {
+            let mut list = LIST;
+            list[7] = changed;
+            Winds.write(&list, place)
+        };
+        assert_eq!(rt; leaves([9; 22], |place| write(0, place)), (Ok(()), FIELD));
+        assert_eq!(rt; leaves([9; 12], |place| write(0, place)), (short, [9; 12]));
+        assert_eq!(rt; leaves([9; 32], |place| write(0, place)), (long, [9; 32]));
+        assert_eq!(rt; leaves([9; 22], |place| write(2, place)), (range, [9; 22]));
+        assert_eq!(rt; leaves([9; 12], |place| write(-1, place)), (range, [9; 12]));
     }
 
     #[test]
