@@ -10,7 +10,6 @@ use books::book::Book;
 use books::faults::FieldFault;
 use books::plain::PlainWords;
 use four_kinds::FourKinds;
-use kinds::kind::Kind;
 use kinds::over::Over;
 use labels::kind::Labels;
 use std::alloc::Global;
@@ -18,6 +17,7 @@ use std::fmt;
 use texts::characters::Characters;
 use texts::message::Message;
 use texts::routing::Routing;
+use trial_tools::{push_part, repetition};
 use winds::kind::Winds;
 use wire::modes::Modes;
 
@@ -34,12 +34,10 @@ enum Question {
 
 #[derive(Drop)]
 enum Answer {
-    Count(usize),
-    Number(i32),
-    Absent,
-    Fault(FieldFault),
-    Written(Vec<u8>),
-    Unwritten(FieldFault, Vec<u8>),
+    Count(Result<usize, FieldFault>),
+    Number(Option<i32>),
+    /// The place is told after a refusal too.
+    Written(Result<(), FieldFault>, Vec<u8>),
 }
 
 fn show_fault<W: fmt::Write>(fault: FieldFault, f: &mut fmt::Formatter<W>) -> fmt::Result {
@@ -59,15 +57,15 @@ fn show_place<W: fmt::Write>(place: &[u8], f: &mut fmt::Formatter<W>) -> fmt::Re
 impl fmt::Display for Answer {
     fn fmt<W: fmt::Write>(&self, f: &mut fmt::Formatter<W>) -> fmt::Result {
         match self {
-            Answer::Count(count) => write!(f, "{count}"),
-            Answer::Number(number) => write!(f, "{number}"),
-            Answer::Absent => f.write_str("none"),
-            Answer::Fault(fault) => show_fault(*fault, f),
-            Answer::Written(place) => {
+            Answer::Count(Ok(count)) => write!(f, "{count}"),
+            Answer::Count(Err(fault)) => show_fault(*fault, f),
+            Answer::Number(Some(number)) => write!(f, "{number}"),
+            Answer::Number(None) => f.write_str("none"),
+            Answer::Written(Ok(()), place) => {
                 f.write_str("written")?;
                 show_place(place, f)
             }
-            Answer::Unwritten(fault, place) => {
+            Answer::Written(Err(fault), place) => {
                 show_fault(*fault, f)?;
                 show_place(place, f)
             }
@@ -75,20 +73,10 @@ impl fmt::Display for Answer {
     }
 }
 
-/// A part and how often it stands there.
-fn repetition(word: &str) -> anyhow::Result<(usize, &str)> {
-    match word.split_once('*') {
-        Some((times, part)) => Ok((times.parse::<usize>()?, part)),
-        None => Ok((1, word)),
-    }
-}
-
 fn read_field(heap: Global, words: &[&str]) -> anyhow::Result<Vec<u8>> {
     let mut field = Vec::new(heap);
     for word in words {
-        let (times, digits) = repetition(word)?;
-        let bytes = hex::decode(heap, digits)?.repeat(heap, times)?;
-        field.extend_from_slice(&bytes)?;
+        push_part(heap, &mut field, word)?;
     }
     Ok(field)
 }
@@ -126,40 +114,15 @@ fn read_question(heap: Global, words: &[&str]) -> anyhow::Result<Question> {
     }
 }
 
-impl From<Result<usize, FieldFault>> for Answer {
-    fn from(told: Result<usize, FieldFault>) -> Answer {
-        match told {
-            Ok(count) => Answer::Count(count),
-            Err(fault) => Answer::Fault(fault),
-        }
-    }
-}
-
-impl From<Option<i32>> for Answer {
-    fn from(told: Option<i32>) -> Answer {
-        match told {
-            Some(number) => Answer::Number(number),
-            None => Answer::Absent,
-        }
-    }
-}
-
-/// The place is told after a refusal too.
-fn write<B: Book>(book: &B, at: Modes, list: &[i32], mut place: Vec<u8>) -> Answer {
-    match book.write(at, list, &mut place) {
-        Ok(()) => Answer::Written(place),
-        Err(fault) => Answer::Unwritten(fault, place),
-    }
-}
-
-fn ask<B: Book>(heap: Global, book: &B, at: Modes, question: &Question) -> anyhow::Result<Answer> {
+fn ask(heap: Global, book: &dyn Book, at: Modes, question: &Question) -> anyhow::Result<Answer> {
     match question {
-        Question::Judge(field) => Ok(book.judge(at, field).into()),
-        Question::Number(index, field) => Ok(book.number(at, field, *index).into()),
-        Question::Weigh(list) => Ok(book.weigh(at, list).into()),
+        Question::Judge(field) => Ok(Answer::Count(book.judge(at, field))),
+        Question::Number(index, field) => Ok(Answer::Number(book.number(at, field, *index))),
+        Question::Weigh(list) => Ok(Answer::Count(book.weigh(at, list))),
         Question::Write(size, list) => {
-            let place = vec![in heap; BLANK; *size]?;
-            Ok(write(book, at, list, place))
+            let mut place = vec![in heap; BLANK; *size]?;
+            let told = book.write(at, list, &mut place);
+            Ok(Answer::Written(told, place))
         }
     }
 }
@@ -172,16 +135,21 @@ fn over<K>(kind: K) -> Over<K, PlainWords> {
     }
 }
 
-fn ask_by_name(heap: Global, book: &str, at: Modes, question: &Question) -> anyhow::Result<Answer> {
-    match book {
-        "plain" => ask(heap, &PlainWords, at, question),
-        "routing" => ask(heap, &over(Characters { text: Routing }), at, question),
-        "message" => ask(heap, &over(Characters { text: Message }), at, question),
-        "labels" => ask(heap, &over(Labels), at, question),
-        "winds" => ask(heap, &over(Winds), at, question),
-        "four" => ask(heap, &FourKinds, at, question),
-        _ => Err(anyhow!("no such book")),
-    }
+fn ask_by_name(heap: Global, name: &str, at: Modes, question: &Question) -> anyhow::Result<Answer> {
+    let routing = over(Characters { text: Routing });
+    let message = over(Characters { text: Message });
+    let labels = over(Labels);
+    let winds = over(Winds);
+    let book: Option<&dyn Book> = match name {
+        "plain" => Some(&PlainWords),
+        "routing" => Some(&routing),
+        "message" => Some(&message),
+        "labels" => Some(&labels),
+        "winds" => Some(&winds),
+        "four" => Some(&FourKinds),
+        _ => None,
+    };
+    ask(heap, book.context("no such book")?, at, question)
 }
 
 fn answer_row(heap: Global, row: &str) -> anyhow::Result<Answer> {
