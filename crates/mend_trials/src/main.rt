@@ -6,29 +6,32 @@ use anyhow::{Context, anyhow};
 use scripts::player::Player;
 use std::alloc::Global;
 use std::io::{BufRead, BufReader, Write};
+use trial_tools::repetition;
 
-/// A script under way, which a line that cannot be read ends.
+/// A script under way.
 #[derive(Drop)]
 struct Case {
-    player: Player,
+    /// None after a line that cannot be read, which ends the script.
+    player: Option<Player>,
+    // Counted by hand: a line that is repeated counts each time, and a line of the table that begins a case never.
     lines: usize,
-    readable: bool,
 }
 
 impl Case {
     fn begin(heap: Global, name: &str, output: &mut impl Write) -> anyhow::Result<Case> {
         writeln!(output, "case {name}")?;
         Ok(Case {
-            player: Player::new(heap)?,
+            player: Some(Player::new(heap)?),
             lines: 0,
-            readable: true,
         })
     }
 
     fn play(&mut self, heap: Global, line: &str, output: &mut impl Write) -> anyhow::Result<()> {
-        if self.readable {
+        if let Some(player) = &mut self.player {
             self.lines = self.lines.saturating_add(1);
-            self.readable = self.player.play(heap, self.lines, line, output)?;
+            if !player.play(heap, self.lines, line, output)? {
+                self.player = None;
+            }
         }
         Ok(())
     }
@@ -47,16 +50,16 @@ impl Case {
     }
 
     fn end(&self, output: &mut impl Write) -> anyhow::Result<()> {
-        if self.readable {
-            self.player.print_end(output)?;
+        match &self.player {
+            Some(player) => player.print_end(output),
+            None => Ok(()),
         }
-        Ok(())
     }
 }
 
 /// Adds the word that many times, each with a blank before it.
-fn push_words(line: &mut String, times: &str, word: &str) -> anyhow::Result<()> {
-    for _ in 0..times.parse::<u32>()? {
+fn push_words(line: &mut String, times: usize, word: &str) -> anyhow::Result<()> {
+    for _ in 0..times {
         line.push(' ')?;
         line.push_str(word)?;
     }
@@ -68,7 +71,7 @@ fn expand(heap: Global, short: &str) -> anyhow::Result<String> {
     let mut words = short.split(' ');
     let mut line = String::from_str(heap, words.next().unwrap_or(""))?;
     for word in words {
-        let (times, one) = word.split_once('*').unwrap_or(("1", word));
+        let (times, one) = repetition(word)?;
         push_words(&mut line, times, one)?;
     }
     Ok(line)

@@ -7,15 +7,7 @@ use four_kinds::FourKinds;
 use printing::{print_line, print_refusal};
 use products::closed::Closed;
 use std::alloc::Global;
-
-fn push_part(heap: Global, memory: &mut Vec<u8>, part: &str) -> anyhow::Result<()> {
-    let (times, digits) = part.split_once('*').unwrap_or(("1", part));
-    let bytes = hex::decode(heap, digits)?;
-    for _ in 0..times.parse::<usize>()? {
-        memory.extend_from_slice(&bytes)?;
-    }
-    Ok(())
-}
+use trial_tools::push_part;
 
 fn print_receipt(rt: &HostRuntime, memory: &[u8], count: usize) -> anyhow::Result<()> {
     let output = &mut rt.stdout();
