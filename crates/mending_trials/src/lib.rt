@@ -3,22 +3,21 @@
 
 #[cfg(test)]
 mod tests {
-    use books::book::Book;
+    use books::faults::Rule;
     use four_kinds::FourKinds;
-    use judging::faults::Refusal;
+    use judging::faults::{BlockFault, Place, Refusal};
     use products::closed::Closed;
     use products::opened::Open;
+    use products::tally::Tally;
     use records::drafts::Record;
     use std::process::Abort;
     use std::test::Fail;
+    use wire::blocks::Malformed;
+    use wire::forms::Form;
     use wire::modes::Modes;
 
     // What stands behind a product at first.
     const FILL: u8 = 35;
-
-    fn accepted<T, E: Drop>(res: Result<T, E>) -> Result<T, Fail> {
-        res.map_err(|_| Fail::new("refused"))
-    }
 
     fn record(form: u8, mode: u8, submode: u8, numbers: &[i32]) -> Record<'_> {
         Record {
@@ -32,166 +31,216 @@ mod tests {
     // The words of block 2 look like a block.
     fn open_product(memory: &mut [u8]) -> Result<Open, Fail> {
         let wind = record(1, 5, 3, &[12, 1, -2, 300, 270, 25, 38, 0]);
-        let mut product = accepted(Open::start(memory, &FourKinds, 0, 0, &[86, 54]))?;
-        accepted(product.add(memory, &FourKinds, wind))?;
-        accepted(product.add(memory, &FourKinds, record(1, 2, 0, &[0x4002, 0x200])))?;
-        accepted(product.add(memory, &FourKinds, record(1, 2, 0, &[9])))?;
+        let mut product = Open::start(memory, &FourKinds, 0, 0, &[86, 54])?;
+        product.add(memory, &FourKinds, wind)?;
+        product.add(memory, &FourKinds, record(1, 2, 0, &[0x4002, 0x200]))?;
+        product.add(memory, &FourKinds, record(1, 2, 0, &[9]))?;
         Ok(product)
     }
 
-    // The same with its end: 46 bytes.
+    const OPEN: Tally = Tally {
+        bytes: 40,
+        blocks: 4,
+        close: Form::Checksummed,
+    };
+
+    // The same with its end.
     fn closed_product(memory: &mut [u8]) -> Result<Closed, Fail> {
         let product = open_product(memory)?;
-        accepted(product.close(memory, &FourKinds))
+        let closed = product.close(memory, &FourKinds);
+        Ok(closed.map_err(|kept| kept.refusal)?)
     }
 
-    // The numbers of a refusal; inside 16 those of the fault, its block, its byte, and its rule and offset.
-    fn told(refusal: Refusal) -> [usize; 6] {
-        let (rule, offset) = refusal.field().map_or((0, 0), |field| {
-            (usize::from(field.rule.number()), field.place)
-        });
-        let (number, block, at) = match refusal {
-            Refusal::NotHeld(inside) => {
-                (
-                    usize::from(inside.fault.number()),
-                    inside.place.block,
-                    inside.place.at,
-                )
-            }
-            _ => (0, 0, 0),
-        };
-        [
-            usize::from(refusal.number()),
-            number,
-            block,
-            at,
-            rule,
-            offset,
-        ]
+    const CLOSED: Tally = Tally {
+        bytes: 46,
+        blocks: 5,
+        close: Form::Checksummed,
+    };
+
+    // A memory that holds the open product.
+    fn open_memory() -> Result<[u8; 64], Fail> {
+        let mut memory = [FILL; 64];
+        let _product = open_product(&mut memory)?;
+        Ok(memory)
     }
 
-    #[derive(Clone, Copy)]
-    enum Call {
-        Add,
-        Replace,
-        Withdraw,
-        Close,
+    fn closed_memory() -> Result<[u8; 64], Fail> {
+        let mut memory = [FILL; 64];
+        let _product = closed_product(&mut memory)?;
+        Ok(memory)
     }
 
-    const CALLS: [Call; 4] = [Call::Add, Call::Replace, Call::Withdraw, Call::Close];
+    // The memory does not hold the product.
+    fn not_held(fault: BlockFault, block: usize, at: usize) -> Refusal {
+        Place { block, at }.fault(fault).into()
+    }
 
-    fn refused_close(product: Open, memory: &mut [u8]) -> Result<(Open, Refusal), Fail> {
-        match product.close(memory, &FourKinds) {
-            Ok(_) => Err(Fail::new("accepted")),
-            Err(kept) => Ok((kept.product, kept.refusal)),
+    // The numbers of the refusals in these trials, and the faults of a field in them.
+    #[test]
+    fn numbers(rt: HostRuntime) {
+        let field = Rule::ByteRange.at(6);
+        let cases = [
+            (BlockFault::Count, 1, None),
+            (Malformed::Short.into(), 3, None),
+            (Malformed::Flag.into(), 4, None),
+            (Malformed::Length.into(), 5, None),
+            (Malformed::Past.into(), 6, None),
+            (Malformed::Sum.into(), 7, None),
+            (Malformed::Mode.into(), 8, None),
+            (BlockFault::Misplaced, 9, None),
+            (BlockFault::LateDefinition, 10, None),
+            (BlockFault::EndWithData, 11, None),
+            (BlockFault::Field(field), 12, Some(field)),
+            (BlockFault::Leftover, 13, None),
+        ];
+        for (fault, number, field) in &cases {
+            let refusal = not_held(*fault, 0, 0);
+            assert_eq!(rt; refusal.number(), 16);
+            assert_eq!(rt; fault.number(), *number);
+            assert_eq!(rt; refusal.field(), *field);
         }
+        assert_eq!(rt; Rule::ByteRange.number(), 4);
+        assert_eq!(rt; Refusal::NoRoom.number(), 21);
+        assert_eq!(rt; Refusal::NoRoom.field(), None);
     }
 
-    // The product after a refused call, and the refusal.
-    fn refused_call(
-        mut product: Open,
-        memory: &mut [u8],
-        call: Call,
-    ) -> Result<(Open, Refusal), Fail> {
-        let given = record(1, 2, 0, &[1, 2, 3, 4, 5, 6, 7]);
-        let answer = match call {
-            Call::Add => product.add(memory, &FourKinds, given),
-            Call::Replace => product.replace(memory, &FourKinds, 1, given),
-            Call::Withdraw => product.withdraw(memory, &FourKinds, 1),
-            Call::Close => return refused_close(product, memory),
-        };
-        match answer {
-            Ok(()) => Err(Fail::new("accepted")),
-            Err(refusal) => Ok((product, refusal)),
-        }
+    // Why a call was refused, and what the product counts then; none if it was not.
+    type Told = Option<(Refusal, Tally)>;
+
+    const GIVEN: [i32; 7] = [1, 2, 3, 4, 5, 6, 7];
+
+    fn add(memory: &mut [u8]) -> Result<Told, Fail> {
+        let mut product = open_product(&mut [FILL; 64])?;
+        let answer = product.add(memory, &FourKinds, record(1, 2, 0, &GIVEN));
+        Ok(answer.err().map(|refusal| (refusal, product.tally())))
+    }
+
+    fn replace(memory: &mut [u8]) -> Result<Told, Fail> {
+        let mut product = open_product(&mut [FILL; 64])?;
+        let answer = product.replace(memory, &FourKinds, 1, record(1, 2, 0, &GIVEN));
+        Ok(answer.err().map(|refusal| (refusal, product.tally())))
+    }
+
+    fn withdraw(memory: &mut [u8]) -> Result<Told, Fail> {
+        let mut product = open_product(&mut [FILL; 64])?;
+        let answer = product.withdraw(memory, &FourKinds, 1);
+        Ok(answer.err().map(|refusal| (refusal, product.tally())))
+    }
+
+    fn close(memory: &mut [u8]) -> Result<Told, Fail> {
+        let kept = open_product(&mut [FILL; 64])?
+            .close(memory, &FourKinds)
+            .err();
+        Ok(kept.map(|kept| (kept.refusal, kept.product.tally())))
+    }
+
+    fn reopen(memory: &mut [u8]) -> Result<Told, Fail> {
+        let kept = closed_product(&mut [FILL; 64])?
+            .reopen(memory, &FourKinds)
+            .err();
+        Ok(kept.map(|kept| (kept.refusal, kept.product.tally())))
     }
 
     // The call is refused so in the first `size` bytes of a memory, and leaves product and memory as they were.
-    fn check_call(
+    fn check<F: FnOnce(&mut [u8]) -> Result<Told, Fail>>(
         rt: &impl Abort,
         memory: [u8; 64],
         size: usize,
-        call: Call,
-        expected: [usize; 6],
-    ) -> Result<(), Fail> {
-        let product = open_product(&mut [FILL; 64])?;
+        call: F,
+        expected: (Refusal, Tally),
+    ) -> Result<(), Fail>
+        requires { F.IsAlwaysCallable call }
+    {
         let mut lent = memory;
         assert!(rt; size <= 64);
-        let (after, refusal) = refused_call(product, &mut lent[0..size], call)?;
-        assert_eq!(rt; told(refusal), expected);
-        let tally = after.tally();
-        assert_eq!(rt; [tally.bytes, tally.blocks], [40, 4]);
+        assert_eq!(rt; call(&mut lent[0..size])?, Some(expected));
         assert_eq!(rt; lent, memory);
         Ok(())
     }
 
-    fn check_calls(
+    // Each call on the open product.
+    fn check_open(
         rt: &impl Abort,
         memory: [u8; 64],
         size: usize,
-        expected: [usize; 6],
+        refusal: Refusal,
     ) -> Result<(), Fail> {
-        for call in CALLS {
-            check_call(rt, memory, size, call, expected)?;
-        }
-        Ok(())
+        check(rt, memory, size, add, (refusal, OPEN))?;
+        check(rt, memory, size, replace, (refusal, OPEN))?;
+        check(rt, memory, size, withdraw, (refusal, OPEN))?;
+        check(rt, memory, size, close, (refusal, OPEN))
     }
 
-    // A pair put at a byte of a held product, and what is then inside 16.
-    #[derive(Clone, Copy)]
-    struct Change {
+    fn check_closed(
+        rt: &impl Abort,
+        memory: [u8; 64],
+        size: usize,
+        refusal: Refusal,
+    ) -> Result<(), Fail> {
+        check(rt, memory, size, reopen, (refusal, CLOSED))
+    }
+
+    // A pair put at a byte of a held product, and how a call is refused then.
+    type Change = (usize, [u8; 2], Refusal);
+
+    fn pair_at(
         at: usize,
         pair: [u8; 2],
-        inside: [usize; 5],
+        fault: impl Into<BlockFault>,
+        block: usize,
+        byte: usize,
+    ) -> Change {
+        (at, pair, not_held(fault.into(), block, byte))
     }
 
-    fn pair_at(at: usize, pair: [u8; 2], inside: [usize; 5]) -> Change {
-        Change { at, pair, inside }
-    }
-
-    fn put(rt: &impl Abort, memory: &mut [u8; 64], change: Change) -> [usize; 6] {
-        let Change { at, pair, inside } = change;
-        assert!(rt; at < 63);
-        memory[at] = pair[0];
-        memory[at + 1] = pair[1];
-        let [number, block, byte, rule, offset] = inside;
-        [16, number, block, byte, rule, offset]
+    // Makes each change in a memory, and checks what then stands there.
+    fn check_changes<F: Fn([u8; 64], Refusal) -> Result<(), Fail>>(
+        rt: &impl Abort,
+        held: [u8; 64],
+        changes: &[Change],
+        check: F,
+    ) -> Result<(), Fail>
+        requires { F.IsAlwaysCallable check }
+    {
+        for (at, pair, refusal) in changes {
+            let mut memory = held;
+            assert!(rt; *at < 63);
+            memory[*at..*at + 2].copy_from_slice(pair);
+            check(memory, *refusal)?;
+        }
+        Ok(())
     }
 
     #[test]
     fn changed_behind_an_open_product(rt: HostRuntime) -> Result<(), Fail> {
         let changes = [
-            pair_at(4, [0, 87], [7, 0, 0, 0, 0]),
-            pair_at(2, [1, 3], [7, 0, 0, 0, 0]),
-            pair_at(10, [0x80, 8], [4, 1, 10, 0, 0]),
-            pair_at(10, [0x40, 1], [5, 1, 10, 0, 0]),
-            pair_at(34, [0x40, 4], [6, 3, 34, 0, 0]),
-            pair_at(12, [64, 3], [8, 1, 10, 0, 0]),
-            pair_at(12, [1, 1], [9, 1, 10, 0, 0]),
-            pair_at(12, [1, 2], [9, 1, 10, 0, 0]),
-            pair_at(36, [1, 2], [9, 3, 34, 0, 0]),
-            pair_at(28, [3, 16], [10, 2, 26, 0, 0]),
-            pair_at(20, [1, 0x69], [12, 1, 10, 4, 6]),
-            pair_at(26, [0x40, 7], [3, 3, 40, 0, 0]),
-            pair_at(26, [0x40, 2], [13, 3, 30, 0, 0]),
+            pair_at(4, [0, 87], Malformed::Sum, 0, 0),
+            pair_at(2, [1, 3], Malformed::Sum, 0, 0),
+            pair_at(10, [0x80, 8], Malformed::Flag, 1, 10),
+            pair_at(10, [0x40, 1], Malformed::Length, 1, 10),
+            pair_at(34, [0x40, 4], Malformed::Past, 3, 34),
+            pair_at(12, [64, 3], Malformed::Mode, 1, 10),
+            pair_at(12, [1, 1], BlockFault::Misplaced, 1, 10),
+            pair_at(12, [1, 2], BlockFault::Misplaced, 1, 10),
+            pair_at(36, [1, 2], BlockFault::Misplaced, 3, 34),
+            pair_at(28, [3, 16], BlockFault::LateDefinition, 2, 26),
+            pair_at(20, [1, 0x69], Rule::ByteRange.at(6), 1, 10),
+            pair_at(26, [0x40, 7], Malformed::Short, 3, 40),
+            pair_at(26, [0x40, 2], BlockFault::Leftover, 3, 30),
         ];
-        for changed in changes {
-            let mut memory = [FILL; 64];
-            let _product = open_product(&mut memory)?;
-            let expected = put(&rt, &mut memory, changed);
-            check_calls(&rt, memory, 64, expected)?;
-        }
-        Ok(())
+        check_changes(&rt, open_memory()?, &changes, |memory, refusal| {
+            check_open(&rt, memory, 64, refusal)
+        })
     }
 
     // A memory of zeros, and memories that the product passes.
     #[test]
     fn another_memory(rt: HostRuntime) -> Result<(), Fail> {
-        check_calls(&rt, [0; 64], 64, [16, 5, 0, 0, 0, 0])?;
-        let mut memory = [FILL; 64];
-        let _product = open_product(&mut memory)?;
+        let no_block = not_held(Malformed::Length.into(), 0, 0);
+        check_open(&rt, [0; 64], 64, no_block)?;
+        let memory = open_memory()?;
         for size in [0, 1, 38, 39] {
-            check_calls(&rt, memory, size, [16, 1, 0, 0, 0, 0])?;
+            check_open(&rt, memory, size, not_held(BlockFault::Count, 0, 0))?;
         }
         Ok(())
     }
@@ -199,60 +248,32 @@ mod tests {
     // The product is held, but the memory is too short for what the call would make of it.
     #[test]
     fn a_memory_too_short(rt: HostRuntime) -> Result<(), Fail> {
-        let mut memory = [FILL; 64];
-        let _product = open_product(&mut memory)?;
-        for (call, size) in [
-            (Call::Close, 40),
-            (Call::Close, 45),
-            (Call::Add, 63),
-            (Call::Replace, 47),
-        ] {
-            check_call(&rt, memory, size, call, [21, 0, 0, 0, 0, 0])?;
-        }
-        Ok(())
-    }
-
-    fn check_reopen(
-        rt: &impl Abort,
-        memory: [u8; 64],
-        size: usize,
-        expected: [usize; 6],
-    ) -> Result<(), Fail> {
-        let product = closed_product(&mut [FILL; 64])?;
-        let mut lent = memory;
-        assert!(rt; size <= 64);
-        match product.reopen(&mut lent[0..size], &FourKinds) {
-            Ok(_) => return Err(Fail::new("accepted")),
-            Err(kept) => {
-                assert_eq!(rt; told(kept.refusal), expected);
-                let tally = kept.product.tally();
-                assert_eq!(rt; [tally.bytes, tally.blocks], [46, 5]);
-            }
-        }
-        assert_eq!(rt; lent, memory);
-        Ok(())
+        let memory = open_memory()?;
+        let refused = (Refusal::NoRoom, OPEN);
+        check(&rt, memory, 40, close, refused)?;
+        check(&rt, memory, 45, close, refused)?;
+        check(&rt, memory, 63, add, refused)?;
+        check(&rt, memory, 47, replace, refused)
     }
 
     #[test]
     fn changed_behind_a_closed_product(rt: HostRuntime) -> Result<(), Fail> {
         let changes = [
-            pair_at(4, [0, 87], [7, 0, 0, 0, 0]),
-            pair_at(12, [64, 3], [8, 1, 10, 0, 0]),
-            pair_at(12, [1, 2], [11, 1, 10, 0, 0]),
-            pair_at(20, [1, 0x69], [12, 1, 10, 4, 6]),
-            pair_at(26, [0x40, 7], [13, 3, 40, 0, 0]),
-            pair_at(26, [0x40, 2], [13, 5, 40, 0, 0]),
-            pair_at(42, [2, 2], [7, 4, 40, 0, 0]),
-            pair_at(40, [0x40, 3], [11, 4, 40, 0, 0]),
+            pair_at(4, [0, 87], Malformed::Sum, 0, 0),
+            pair_at(12, [64, 3], Malformed::Mode, 1, 10),
+            pair_at(12, [1, 2], BlockFault::EndWithData, 1, 10),
+            pair_at(20, [1, 0x69], Rule::ByteRange.at(6), 1, 10),
+            pair_at(26, [0x40, 7], BlockFault::Leftover, 3, 40),
+            pair_at(26, [0x40, 2], BlockFault::Leftover, 5, 40),
+            pair_at(42, [2, 2], Malformed::Sum, 4, 40),
+            pair_at(40, [0x40, 3], BlockFault::EndWithData, 4, 40),
         ];
-        for changed in changes {
-            let mut memory = [FILL; 64];
-            let _product = closed_product(&mut memory)?;
-            let expected = put(&rt, &mut memory, changed);
-            check_reopen(&rt, memory, 64, expected)?;
-        }
-        check_reopen(&rt, [0; 64], 64, [16, 5, 0, 0, 0, 0])?;
-        check_reopen(&rt, [0; 64], 45, [16, 1, 0, 0, 0, 0])
+        check_changes(&rt, closed_memory()?, &changes, |memory, refusal| {
+            check_closed(&rt, memory, 64, refusal)
+        })?;
+        let no_block = not_held(Malformed::Length.into(), 0, 0);
+        check_closed(&rt, [0; 64], 64, no_block)?;
+        check_closed(&rt, [0; 64], 45, not_held(BlockFault::Count, 0, 0))
     }
 
     // Zeros up to a byte, and from there on what stood there before the product.
@@ -272,7 +293,7 @@ mod tests {
         let mut product = open_product(&mut memory)?;
         check_behind(&rt, &memory, 40, 40);
         let before = memory;
-        accepted(product.withdraw(&mut memory, &FourKinds, 2))?;
+        product.withdraw(&mut memory, &FourKinds, 2)?;
         assert_eq!(rt; &memory[0..26], &before[0..26]);
         assert_eq!(rt; &memory[26..32], &before[34..40]);
         check_behind(&rt, &memory, 32, 40);
@@ -284,11 +305,11 @@ mod tests {
         let mut memory = [FILL; 64];
         let mut product = open_product(&mut memory)?;
         let before = memory;
-        accepted(product.replace(&mut memory, &FourKinds, 1, record(1, 2, 0, &[])))?;
+        product.replace(&mut memory, &FourKinds, 1, record(1, 2, 0, &[]))?;
         assert_eq!(rt; &memory[14..28], &before[26..40]);
         check_behind(&rt, &memory, 28, 40);
         let grown = record(1, 2, 0, &[0; 10]);
-        accepted(product.replace(&mut memory, &FourKinds, 1, grown))?;
+        product.replace(&mut memory, &FourKinds, 1, grown)?;
         assert_eq!(rt; &memory[34..48], &before[26..40]);
         check_behind(&rt, &memory, 48, 48);
         Ok(())
@@ -300,10 +321,11 @@ mod tests {
         let product = closed_product(&mut memory)?;
         check_behind(&rt, &memory, 46, 46);
         let before = memory;
-        let mut opened = accepted(product.reopen(&mut memory, &FourKinds))?;
+        let reopened = product.reopen(&mut memory, &FourKinds);
+        let mut opened = reopened.map_err(|kept| kept.refusal)?;
         assert_eq!(rt; &memory[0..40], &before[0..40]);
         check_behind(&rt, &memory, 40, 46);
-        accepted(opened.add(&mut memory, &FourKinds, record(1, 2, 0, &[])))?;
+        opened.add(&mut memory, &FourKinds, record(1, 2, 0, &[]))?;
         check_behind(&rt, &memory, 44, 46);
         Ok(())
     }
