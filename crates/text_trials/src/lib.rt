@@ -6,20 +6,13 @@ mod tests {
     use std::process::Abort;
     use std::test::Fail;
     use text::lines::*;
+    use trial_tools::just_fits;
     use wire::classes::Class;
     use wire::modes::Modes;
 
-    const MARK: u8 = 35;
-
     fn check_line(rt: &impl Abort, line: Line, text: &str) {
-        let n = text.len();
-        assert!(rt; 0 < n && n < 256);
-        let mut memory = [MARK; 256];
-        assert_eq!(rt; line.write(&mut memory[..n]), Some(n));
-        assert_eq!(rt; &memory[..n], text.as_bytes());
-        let mut short = [MARK; 256];
-        assert_eq!(rt; line.write(&mut short[..n - 1]), None);
-        assert_eq!(rt; short, [MARK; 256]);
+        let answers = just_fits(text, |memory| line.write(memory));
+        assert_eq!(rt; answers, Some((Some(text.len()), None)));
     }
 
     fn block(mode: u8, submode: u8, class: Class) -> Line {

@@ -2,10 +2,10 @@
 // No handle of a test is taken: what is told here, a trial asserts.
 #![tactic(auto)]
 
-ghost use Rattle.trial_tools.specs.Trials.{Repeats, Appends};
+ghost use Rattle.trial_tools.specs.Trials.{Gives, JustFits, Repeats, Appends};
 ghost use Rattle.std.specs.List.{slice_set};
 ghost use Rattle.std.specs.Fn.{FnOnceReturnsAtMut};
-ghost use Rattle.std.specs.Prelude.{◌≡◌, ◌<◌, ◌≤◌, length, IfOk, OnOk, OnErr, IsOk, ◌↔◌};
+ghost use Rattle.std.specs.Prelude.{◌≡◌, ◌<◌, ◌≤◌, length, IfSome, IfOk, OnOk, OnErr, IsOk, ◌↔◌};
 
 use std::alloc::Global;
 
@@ -41,6 +41,40 @@ pub fn leaves<T: Copy, R, F: FnOnce(&mut T) -> R>(value: T, call: F) -> (R, T)
     (answer, lent)
 }
 
+/// What stands in a memory before it is written.
+const MARK: u8 = 35;
+
+/// What a writing answers, if it leaves the memory so.
+fn answer_if<R: Drop, F: Fn(&mut [u8]) -> R>(
+    write: &F,
+    memory: &mut [u8],
+    after: &[u8],
+) -> Option<R>
+    requires { F.IsAlwaysCallable write.now }
+    ensures { IfSome result (λ told. Gives F.Fn write.now memory.old told after.now) }
+{
+    let told = write(memory);
+    if *memory == *after { Some(told) } else { None }
+}
+
+/// What a writing answers in memory just as long as the text, and in memory one byte short of it.
+/// None where the first does not hold the text then, or the second is not as it was; or if no byte or more than 255 are in the text.
+pub fn just_fits<R: Drop, F: Fn(&mut [u8]) -> R>(text: &str, write: F) -> Option<(R, R)>
+    requires { F.IsAlwaysCallable write }
+    ensures { IfSome result (λ told. JustFits F.Fn write text.now told.0 told.1) }
+{
+    let size = text.len();
+    if size == 0 || size > 255 {
+        return None;
+    }
+    let marks = [MARK; 255];
+    let mut long = marks;
+    let mut short = marks;
+    let told = answer_if(&write, &mut long[..size], text.as_bytes())?;
+    let refused = answer_if(&write, &mut short[..size - 1], &marks[..size - 1])?;
+    Some((told, refused))
+}
+
 /// How often a word stands there, and the word: `N*WORD`, or the word itself once.
 pub fn repetition(word: &str) -> anyhow::Result<(usize, &str)>
     ensures { IfOk result (λ told. Repeats word.now told.0 told.1.now) }
@@ -58,4 +92,29 @@ pub fn push_part(heap: Global, bytes: &mut Vec<u8>, part: &str) -> anyhow::Resul
     let (times, digits) = repetition(part)?;
     let piece = hex::decode(heap, digits)?.repeat(heap, times)?;
     Ok(bytes.extend_from_slice(&piece)?)
+}
+
+#[cfg(test)]
+mod tests {
+    use super::*;
+    use std::test::Fail;
+
+    #[test]
+    fn parts_are_repeated(rt: HostRuntime) -> Result<(), Fail> {
+        let heap = rt.alloc();
+        let mut bytes = Vec::new(heap);
+        for part in ["01fE", "2*0aB0", "0*77", "+1*03"] {
+            push_part(heap, &mut bytes, part)?;
+        }
+        assert_eq!(rt; bytes.as_slice(), [1, 254, 10, 176, 10, 176, 3].as_slice());
+        Ok(())
+    }
+
+    #[test]
+    fn a_word_has_a_count_before_its_first_star(rt: HostRuntime) -> Result<(), Fail> {
+        assert_eq!(rt; repetition("-7")?, (1, "-7"));
+        assert_eq!(rt; repetition("12*3*4")?, (12, "3*4"));
+        assert!(rt; repetition("x*3").is_err());
+        Ok(())
+    }
 }
