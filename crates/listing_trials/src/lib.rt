@@ -5,44 +5,54 @@ ghost use Rattle.std.specs.Prelude.{◌<◌};
 
 #[cfg(test)]
 mod tests {
-    use books::book::Book;
     use books::plain::PlainWords;
-    use judging::faults::Refusal;
+    use judging::faults::{BlockFault, Place, Refusal};
     use lines::listing::write_line;
     use lines::refusals::write_refusal;
     use products::closed::Closed;
-    use reading::facts::{Facts, block_facts};
-    use std::process::Abort;
+    use reading::facts::{Facts, Part, block_facts};
     use std::test::Fail;
+    use trial_tools::just_fits;
+    use wire::blocks::Malformed;
+    use wire::classes::Class;
+    use wire::forms::Form;
+    use wire::modes::Modes;
 
     // The identification 86, 54; a wind; the text CAVOK; the end.
     const WINDS: [u8; 44] =
         *b"\x00\x05\x01\x01\x00\x56\x00\x36\xFE\x6E\x40\x08\x05\x03\x0C\x80\xFF\xFE\x01\x2C\x01\x0E\x00\x19\x26\x00\x00\x06\x05\x04CAVOK\x03\x16\x63\x00\x03\x01\x02\xFE\xFB";
 
-    fn received(memory: &[u8], count: usize) -> Result<Closed, Fail> {
-        Closed::receive(memory, count, &PlainWords).map_err(|_| Fail::new("refused"))
-    }
-
     fn winds() -> Result<Closed, Fail> {
-        received(&WINDS, 44)
+        Ok(Closed::receive(&WINDS, 44, &PlainWords)?)
     }
 
-    // A refusal as its number; inside 16 the number of the fault, its block and its byte.
-    fn told(refusal: Refusal) -> [usize; 4] {
-        let number = usize::from(refusal.number());
-        match refusal {
-            Refusal::NotHeld(inside) => [
-                number,
-                usize::from(inside.fault.number()),
-                inside.place.block,
-                inside.place.at,
-            ],
-            _ => [number, 0, 0, 0],
+    // The memory does not hold the product.
+    fn not_held(fault: impl Into<BlockFault>, block: usize, at: usize) -> Refusal {
+        Place { block, at }.fault(fault.into()).into()
+    }
+
+    // The numbers of the refusals in these trials, and of the forms.
+    #[test]
+    fn numbers(rt: HostRuntime) {
+        let refusals = [
+            (not_held(BlockFault::Count, 0, 0), 16),
+            (Refusal::NoSuchBlock, 17),
+            (Refusal::NoRoom, 21),
+        ];
+        for (refusal, number) in &refusals {
+            assert_eq!(rt; refusal.number(), *number);
         }
-    }
-
-    fn check_refused<T: Drop>(rt: &impl Abort, res: Result<T, Refusal>, expected: [usize; 4]) {
-        assert_eq!(rt; res.err().map(told), Some(expected));
+        let faults = [
+            (BlockFault::Count, 1),
+            (Malformed::Sum.into(), 7),
+            (Malformed::Mode.into(), 8),
+            (BlockFault::Leftover, 13),
+        ];
+        for (fault, number) in &faults {
+            assert_eq!(rt; fault.number(), *number);
+        }
+        assert_eq!(rt; Form::Checksummed.number(), 0);
+        assert_eq!(rt; Form::LengthOnly.number(), 1);
     }
 
     // The memory with one byte altered.
@@ -58,11 +68,18 @@ mod tests {
     fn held(rt: HostRuntime) -> Result<(), Fail> {
         let product = winds()?;
         let held = |memory: &[u8]| product.check_held(memory, &PlainWords);
-        assert!(rt; held(&WINDS).is_ok());
-        check_refused(&rt, held(&WINDS[..43]), [16, 1, 0, 0]);
-        check_refused(&rt, held(&altered(5, 0x57)), [16, 7, 0, 0]);
-        check_refused(&rt, held(&altered(12, 64)), [16, 8, 1, 10]);
-        check_refused(&rt, held(&altered(28, 1)), [16, 7, 2, 26]);
+        let count = not_held(BlockFault::Count, 0, 0);
+        assert_eq!(rt; held(&WINDS), Ok(()));
+        assert_eq!(rt; held(&WINDS[..43]), Err(count));
+        assert_eq!(rt;
+            held(&altered(5, 0x57)),
+            Err(not_held(Malformed::Sum, 0, 0))
+        );
+        assert_eq!(rt;
+            held(&altered(12, 64)),
+            Err(not_held(Malformed::Mode, 1, 10))
+        );
+        assert_eq!(rt; held(&altered(28, 1)), Err(not_held(Malformed::Sum, 2, 26)));
         Ok(())
     }
 
@@ -71,12 +88,9 @@ mod tests {
     fn held_in_another_form(rt: HostRuntime) -> Result<(), Fail> {
         let short_first = *b"\x40\x02\x01\x01\x00\x03\x01\x02\xFE\xFB";
         let short_last = *b"\x00\x03\x01\x01\xFE\xFC\x40\x02\x01\x02";
-        let product = received(&short_first, 10)?;
-        check_refused(
-            &rt,
-            product.check_held(&short_last, &PlainWords),
-            [16, 13, 1, 6],
-        );
+        let product = Closed::receive(&short_first, 10, &PlainWords)?;
+        let left = not_held(BlockFault::Leftover, 1, 6);
+        assert_eq!(rt; product.check_held(&short_last, &PlainWords), Err(left));
         Ok(())
     }
 
@@ -85,78 +99,76 @@ mod tests {
     fn held_with_other_blocks(rt: HostRuntime) -> Result<(), Fail> {
         let three = *b"\x40\x02\x01\x01\x40\x02\x02\x00\x40\x02\x01\x02";
         let two = *b"\x40\x04\x01\x01\x00\x00\x00\x00\x40\x02\x01\x02";
-        let product = received(&three, 12)?;
-        check_refused(&rt, product.check_held(&two, &PlainWords), [16, 13, 1, 8]);
+        let product = Closed::receive(&three, 12, &PlainWords)?;
+        let left = not_held(BlockFault::Leftover, 1, 8);
+        assert_eq!(rt; product.check_held(&two, &PlainWords), Err(left));
         Ok(())
     }
 
-    fn numbers_of(facts: Facts) -> [usize; 7] {
-        [
-            facts.at,
-            usize::from(facts.form.number()),
-            usize::from(facts.modes.mode),
-            usize::from(facts.modes.submode),
-            facts.field.from,
-            facts.field.to,
-            facts.numbers,
-        ]
+    fn row(
+        at: usize,
+        form: Form,
+        (mode, submode): (u8, u8),
+        class: Class,
+        (from, to): (usize, usize),
+        numbers: usize,
+    ) -> Facts {
+        Facts {
+            at,
+            form,
+            modes: Modes { mode, submode },
+            class,
+            field: Part { from, to },
+            numbers,
+        }
     }
 
     #[test]
     fn facts(rt: HostRuntime) -> Result<(), Fail> {
         let expected = [
-            [0, 0, 1, 1, 4, 8, 2],
-            [10, 1, 5, 3, 14, 26, 6],
-            [26, 0, 5, 4, 30, 36, 3],
-            [38, 0, 1, 2, 42, 42, 0],
+            row(0, Form::Checksummed, (1, 1), Class::Control, (4, 8), 2),
+            row(10, Form::LengthOnly, (5, 3), Class::Data, (14, 26), 6),
+            row(26, Form::Checksummed, (5, 4), Class::Data, (30, 36), 3),
+            row(38, Form::Checksummed, (1, 2), Class::Control, (42, 42), 0),
         ];
         let product = winds()?;
-        for (block, row) in expected.iter().enumerate() {
-            let facts = block_facts(&product, &WINDS, &PlainWords, block);
-            assert_eq!(rt; facts.ok().map(numbers_of), Some(*row));
+        for (block, facts) in expected.iter().enumerate() {
+            assert_eq!(rt;
+                block_facts(&product, &WINDS, &PlainWords, block),
+                Ok(*facts)
+            );
         }
         let past = block_facts(&product, &WINDS, &PlainWords, 4);
-        check_refused(&rt, past, [17, 0, 0, 0]);
+        assert_eq!(rt; past, Err(Refusal::NoSuchBlock));
         let broken = block_facts(&product, &altered(43, 0), &PlainWords, 9);
-        check_refused(&rt, broken, [16, 7, 3, 38]);
+        assert_eq!(rt; broken, Err(not_held(Malformed::Sum, 3, 38)));
         Ok(())
-    }
-
-    // In memory just as long as the line, and one byte short of it.
-    fn check_line(rt: &impl Abort, product: &Closed, number: usize, text: &str) {
-        let size = text.len();
-        assert!(rt; 0 < size && size < 256);
-        let mut out = [35u8; 256];
-        let answer = write_line(product, &WINDS, &PlainWords, number, &mut out[..size]);
-        assert_eq!(rt; answer.ok(), Some(size));
-        assert_eq!(rt; &out[..size], text.as_bytes());
-        let mut short = [35u8; 256];
-        let answer = write_line(product, &WINDS, &PlainWords, number, &mut short[..size - 1]);
-        check_refused(rt, answer, [21, 0, 0, 0]);
-        assert_eq!(rt; short, [35u8; 256]);
     }
 
     #[test]
     fn lines(rt: HostRuntime) -> Result<(), Fail> {
+        let lines = [
+            (0, "bytes=44 blocks=4 close=0\n"),
+            (
+                1,
+                "block=0 at=0 form=0 mode=1 submode=1 class=control numbers=2\n",
+            ),
+            (
+                4,
+                "block=3 at=38 form=0 mode=1 submode=2 class=control numbers=0\n",
+            ),
+        ];
         let product = winds()?;
-        check_line(&rt, &product, 0, "bytes=44 blocks=4 close=0\n");
-        check_line(
-            &rt,
-            &product,
-            1,
-            "block=0 at=0 form=0 mode=1 submode=1 class=control numbers=2\n",
-        );
-        check_line(
-            &rt,
-            &product,
-            4,
-            "block=3 at=38 form=0 mode=1 submode=2 class=control numbers=0\n",
-        );
+        for (number, text) in &lines {
+            let write = |out: &mut [u8]| write_line(&product, &WINDS, &PlainWords, *number, out);
+            let answers = (Ok(text.len()), Err(Refusal::NoRoom));
+            assert_eq!(rt; just_fits(text, write), Some(answers));
+        }
         let mut out = [35u8; 256];
         let past = write_line(&product, &WINDS, &PlainWords, 5, &mut out);
-        check_refused(&rt, past, [17, 0, 0, 0]);
+        assert_eq!(rt; past, Err(Refusal::NoSuchBlock));
         let lost = write_line(&product, &WINDS[..40], &PlainWords, 0, &mut out);
-        check_refused(&rt, lost, [16, 1, 0, 0]);
+        assert_eq!(rt; lost, Err(not_held(BlockFault::Count, 0, 0)));
         assert_eq!(rt; out, [35u8; 256]);
         Ok(())
     }
@@ -166,12 +178,12 @@ mod tests {
         let Err(fault) = Closed::receive(&WINDS, 38, &PlainWords) else {
             return Err(Fail::new("accepted"));
         };
-        let mut out = [35u8; 40];
-        assert_eq!(rt; write_refusal(fault, &mut out).ok(), Some(40));
-        assert_eq!(rt; &out, b"refused=3 block=3 at=38 rule=0 offset=0\n");
-        let mut short = [35u8; 39];
-        check_refused(&rt, write_refusal(fault, &mut short), [21, 0, 0, 0]);
-        assert_eq!(rt; short, [35u8; 39]);
+        let text = "refused=3 block=3 at=38 rule=0 offset=0\n";
+        let answers = (Ok(40), Err(Refusal::NoRoom));
+        assert_eq!(rt;
+            just_fits(text, |out| write_refusal(fault, out)),
+            Some(answers)
+        );
         Ok(())
     }
 }
