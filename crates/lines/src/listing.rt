@@ -39,7 +39,24 @@ fn line_of_block<B: Book>(
     }))
 }
 
-/// Writes line 0, the product's, or line k, that of block k - 1, at the front of `out` and tells its length.
+/// Line 0, the product's, or line k, that of block k - 1.
+// A number says which line: callers count the lines of a product from 0 on, and a type for the two would be made from it here.
+pub fn line<B: Book>(
+    product: &Closed,
+    memory: &[u8],
+    book: &B,
+    number: usize,
+) -> Result<Line, Refusal>
+    ensures { result ≡ line_of (B.meaning book.now) memory.now product.now number }
+{
+    if number == 0 {
+        line_of_product(product, memory, book)
+    } else {
+        line_of_block(product, memory, book, number - 1)
+    }
+}
+
+/// Writes that line at the front of `out` and tells its length.
 pub fn write_line<B: Book>(
     product: &Closed,
     memory: &[u8],
@@ -50,10 +67,6 @@ pub fn write_line<B: Book>(
     ensures answer { result ≡ put_answer (line_of (B.meaning book.now) memory.now product.now number) out.old }
     ensures after { out.new ≡ put_after (line_of (B.meaning book.now) memory.now product.now number) out.old }
 {
-    let line = if number == 0 {
-        line_of_product(product, memory, book)?
-    } else {
-        line_of_block(product, memory, book, number - 1)?
-    };
+    let line = line(product, memory, book, number)?;
     line.write(out).ok_or(Refusal::NoRoom)
 }

@@ -1,14 +1,9 @@
 -- What a writer holds after lines were printed to it, where that is known.
-use Rattle.std.specs.Prelude.{ℕ, zero, suc, List, take, Ok, Err, Option, Result}
+use Rattle.std.specs.Prelude.{ℕ, zero, suc, List, Ok, Err, Option, Result}
 use Rattle.std.specs.Io.KnownBytes.{Keeps, Appends}
 use Rattle.judging.specs.declared.faults.Refusal.{Refusal}
 use Rattle.text.specs.declared.lines.Line.{Line}
 use Rattle.text.specs.Lines.{line_text}
-
--- it took the part of a line that was told
-abbrev pub PrintsTold : Option (List ℕ) → Option (List ℕ) → List ℕ → Result ℕ Refusal → Type 0
-PrintsTold old new line (Ok n) = Appends old new (take n line)
-PrintsTold old new line (Err e) = ⊥
 
 -- it took the text of a line; without a line nothing is printed well
 abbrev pub Prints : Option (List ℕ) → Option (List ℕ) → Result Line Refusal → Type 0

@@ -8,7 +8,7 @@ use wire::classes::Class;
 use wire::modes::Modes;
 
 /// A product that was read to its end.
-#[derive(Clone, Copy)]
+#[derive(Clone, Copy, PartialEq, Eq, Debug)]
 pub struct ProductLine {
     pub bytes: usize,
     pub blocks: usize,
@@ -17,7 +17,7 @@ pub struct ProductLine {
 }
 
 /// One block of a product.
-#[derive(Clone, Copy)]
+#[derive(Clone, Copy, PartialEq, Eq, Debug)]
 pub struct BlockLine {
     pub block: usize,
     pub at: usize,
@@ -29,7 +29,7 @@ pub struct BlockLine {
 }
 
 /// Why and where a product was refused.
-#[derive(Clone, Copy)]
+#[derive(Clone, Copy, PartialEq, Eq, Debug)]
 pub struct RefusalLine {
     // Any number, as `close` is; so is `rule`.
     pub refused: u8,
@@ -39,7 +39,7 @@ pub struct RefusalLine {
     pub offset: usize,
 }
 
-#[derive(Clone, Copy)]
+#[derive(Clone, Copy, PartialEq, Eq, Debug)]
 pub enum Line {
     Product(ProductLine),
     Block(BlockLine),

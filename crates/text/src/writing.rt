@@ -7,10 +7,13 @@ use arrayvec::ArrayString;
 /// Fixed memory, and no heap: the longest line has 128 bytes, and the proofs bound it by 191.
 pub(crate) type Text = ArrayString<256>;
 
+// Numbers, as the digits and their proofs count in them. `commands` has bases of its own: neither crate rests on the other.
 pub(crate) const OCTAL: usize = 8;
 
 pub(crate) const DECIMAL: usize = 10;
 
+// Digits by hand: `write!` promises its text only where it answers `Ok`, and never that it does, so `Line::write` could not
+// promise each byte by it; and `itoa` has no octal.
 // By its own call: the digits come last one first, and the text takes the first one first.
 fn put_digits(text: &mut Text, n: usize, base: usize)
     requires low { 2 ≤ base }
