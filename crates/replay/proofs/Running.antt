@@ -170,16 +170,8 @@ pub lived_as : {S : Type 0} (taken : S → List ℕ) (room : S → ℕ) (M : Mea
 lived_as taken room M s p q mem after t l e f =
     record { world = l.world; life = l.life; product_is = l.product_is ∙ sym e; memory_is = l.memory_is ∙ sym f; sink_is = l.sink_is; law = l.law }
 
--- the next of the items that are left behind the first i
-next_place : {X : Type 0} (xs : List X) (i : ℕ) (x : X) (rest : List X) → x ∷ rest ≡ drop i xs → i < length xs
-next_place xs i x rest h = omega (arith, length-drop i xs, ap length h)
-
-next_more : {X : Type 0} (xs : List X) (i : ℕ) (x : X) (rest : List X) → x ∷ rest ≡ drop i xs → take (i + 1) xs ≡ take i xs ++ (x ∷ [])
-next_more xs i x rest h =
-    let place = next_place xs i x rest h in
-    let cut = drop-cons xs i x place in
-    let here : get_or xs i x ≡ x = cc in
-    take_more xs i x place ∙ ap (λ y. take i xs ++ (y ∷ [])) here
+next_more : {X : Type 0} (xs : List X) (i : ℕ) (x : X) → i < length xs → x ≡ get_or xs i x → take (i + 1) xs ≡ take i xs ++ (x ∷ [])
+next_more xs i x place here = take_more xs i x place ∙ ap (λ y. take i xs ++ (y ∷ [])) (sym here)
 
 module _ {S : Type 0} (taken : S → List ℕ) (room : S → ℕ) (wrote : S → List ℕ → S → Type 0) (M : Meaning) (s : S) (p : Product) (mem : List ℕ) (steps : List Step) (places : List Told) where
   -- all that the first i steps make
@@ -187,9 +179,8 @@ module _ {S : Type 0} (taken : S → List ℕ) (room : S → ℕ) (wrote : S →
   so_far i = run M (room s) p mem (take i steps)
 
   -- those steps are done, told at the first i places, and left this product, memory and sink
-  pub record SoFar (i : ℕ) (rest : List Step) (told : List Told) (q : Product) (after : List ℕ) (t : S) : Type 0 where
+  pub record SoFar (i : ℕ) (told : List Told) (q : Product) (after : List ℕ) (t : S) : Type 0 where
     pub within : i ≤ length steps
-    pub left : rest ≡ drop i steps
     pub told_is : take i told ≡ (so_far i).told
     pub untold : drop i told ≡ drop i places
     pub product_is : q ≡ (so_far i).product
@@ -197,11 +188,10 @@ module _ {S : Type 0} (taken : S → List ℕ) (room : S → ℕ) (wrote : S →
     pub took : Took taken room wrote s (so_far i).put t
     pub lived : Lived taken room M s p mem s → Lived taken room M s q after t
 
-  pub none_so_far : (rest : List Step) → rest ≡ steps → wrote s [] s → SoFar 0 rest places p mem s
+  pub none_so_far : wrote s [] s → SoFar 0 places p mem s
   unfolding run
-  none_so_far rest e w = record {
+  none_so_far w = record {
     within = omega arith;
-    left = e;
     told_is = refl;
     untold = refl;
     product_is = refl;
@@ -210,18 +200,15 @@ module _ {S : Type 0} (taken : S → List ℕ) (room : S → ℕ) (wrote : S →
     lived = λ l. l;
   }
 
-  pub more_so_far : Lawful M → (i : ℕ) (rest rest' : List Step) (told : List Told) (q q' : Product) (after after' : List ℕ) (t t' : S) (step : Step) (what : Told) → SoFar i rest told q after t → rest ≡ step ∷ rest' → i < length told
+  pub more_so_far : Lawful M → (i : ℕ) (told : List Told) (q q' : Product) (after after' : List ℕ) (t t' : S) (step : Step) (what : Told) → SoFar i told q after t → i < length steps → step ≡ get_or steps i step → i < length told
       → TypedIn q.phase step → what ≡ (played M (room t) q after step).told → q' ≡ (played M (room t) q after step).product → after' ≡ (played M (room t) q after step).memory
-      → Sunk taken room wrote t (played M (room t) q after step).put t' what → SoFar (i + 1) rest' (set told i what) q' after' t'
-  more_so_far L i rest rest' told q q' after after' t t' step what l next place known told_is product_is memory_is sunk =
-      let next' : step ∷ rest' ≡ drop i steps = sym next ∙ l.left in
-      let fewer = next_place steps i step rest' next' in
+      → Sunk taken room wrote t (played M (room t) q after step).put t' what → SoFar (i + 1) (set told i what) q' after' t'
+  more_so_far L i told q q' after after' t t' step what l fewer next place known told_is product_is memory_is sunk =
       let free : room s - length (so_far i).put ≡ room t = omega (arith, l.took.left) in
-      let more : so_far (i + 1) ≡ then_step (so_far i) (played M (room t) q after step) = ap (run M (room s) p mem) (next_more steps i step rest' next') ∙ run_snoc M (room s) p mem (take i steps) step ∙ ap (then_step (so_far i)) (ap₃ (λ r u v. played M r u v step) free (sym l.product_is) (sym l.memory_is)) in
+      let more : so_far (i + 1) ≡ then_step (so_far i) (played M (room t) q after step) = ap (run M (room s) p mem) (next_more steps i step fewer next) ∙ run_snoc M (room s) p mem (take i steps) step ∙ ap (then_step (so_far i)) (ap₃ (λ r u v. played M r u v step) free (sym l.product_is) (sym l.memory_is)) in
       let took = sunk_more taken room wrote M _ q after step s t t' _ what l.took told_is sunk in
       record {
         within = omega (arith, fewer);
-        left = ap (drop 1) next' ∙ drop-drop 1 i steps;
         told_is = take_more_set told i what place ∙ ap₂ (λ u v. u ++ (v ∷ [])) l.told_is told_is ∙ sym (ap (λ x. x.told) more);
         untold = drop-set-lt (i + 1) told i what (omega arith) ∙ sym (drop-drop 1 i told) ∙ ap (drop 1) l.untold ∙ drop-drop 1 i places;
         product_is = product_is ∙ sym (ap (λ x. x.product) more);
@@ -237,8 +224,8 @@ module _ {S : Type 0} (taken : S → List ℕ) (room : S → ℕ) (wrote : S →
     pub memory_is : after ≡ (run_told M (room s) p mem steps places).memory
     pub took : Took taken room wrote s (run_told M (room s) p mem steps places).put t
 
-  pub all_done : (i : ℕ) (rest : List Step) (told : List Told) (q : Product) (after : List ℕ) (t : S) → SoFar i rest told q after t → length told ≡ length places → i ≡ min (length places) (length steps) → AllDone told q after t
-  all_done i rest told q after t l long end =
+  pub all_done : (i : ℕ) (told : List Told) (q : Product) (after : List ℕ) (t : S) → SoFar i told q after t → length told ≡ length places → i ≡ min (length places) (length steps) → AllDone told q after t
+  all_done i told q after t l long end =
       let all : so_far i ≡ run_told M (room s) p mem steps places = ap so_far end ∙ ap (run M (room s) p mem) (take_min (length places) steps) in
       let first : length (take i told) ≡ i = length-take-le i told (omega (arith, long)) in
       let told_is : told ≡ places_after (so_far i) places = sym (take-append-drop i told) ∙ ap₂ ◌++◌ l.told_is l.untold ∙ ap (λ n. (so_far i).told ++ drop n places) (sym first ∙ ap length l.told_is) in

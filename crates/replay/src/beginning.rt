@@ -12,6 +12,7 @@ use products::opened::Open;
 /// What a product is started with: its closing form, and the form and the list of its identification.
 #[derive(Drop)]
 pub struct Opening {
+    // Any number, as `form` is: one that no form has is refused.
     pub closing: u8,
     pub form: u8,
     pub numbers: Vec<i32>,
@@ -25,7 +26,7 @@ pub enum Beginning {
 }
 
 /// Why no product came about.
-#[derive(Clone, Copy)]
+#[derive(Clone, Copy, PartialEq, Eq, Debug)]
 pub enum NotBegun {
     Start(Refusal),
     Receipt(ReceiptFault),

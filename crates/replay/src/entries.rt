@@ -6,8 +6,10 @@ use records::drafts::Record;
 use wire::modes::Modes;
 
 /// A record with a list of its own.
+// Beside `Record`, which borrows its list, so that a call needs no heap: the steps of a life keep theirs.
 #[derive(Drop)]
 pub struct Entry {
+    // Any number: one that no form has is refused.
     pub form: u8,
     pub modes: Modes,
     pub numbers: Vec<i32>,

@@ -26,11 +26,11 @@ fn play_all<B: Book, S: Sink>(
     ensures lived { Lived S.Sink.taken S.Sink.room (B.meaning book.now) sink.old (product_in start) memory.old sink.old → Lived S.Sink.taken S.Sink.room (B.meaning book.now) sink.old (product_in result) memory.new sink.new }
 {
     let mut state = start;
+    // No effect: `space` promises the first fact of a sink, that it has put nothing yet.
     let _ = sink.space();
-    // Not a zip: nothing is known of places that were written through an adapter of their iterator.
-    let mut rest = steps.iter();
-    for place in told.iter_mut() {
-        let Some(step) = rest.next() else {
+    // By index: after a `zip` of `iter_mut` a proof knows nothing of the place.
+    for (index, place) in told.iter_mut().enumerate() {
+        let Some(step) = steps.get(index) else {
             break;
         };
         let (next, what) = play(state, step, memory, book, sink);

@@ -43,7 +43,9 @@ pub enum Step {
 }
 
 /// What came of a step.
-#[derive(Clone, Copy)]
+// One enum, and no `Result`: it is what a list of steps is told, in which a step that was passed over or turned down is no failure
+// of the play.
+#[derive(Clone, Copy, PartialEq, Eq, Debug)]
 pub enum Told {
     /// The product's state has no such call: the step was passed over.
     NotAllowed,
