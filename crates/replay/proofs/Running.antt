@@ -1,7 +1,6 @@
 -- One step more of a run.
 use Rattle.std.proofs.Common.{◌≡◌, ℕ, ◌+◌, ◌-◌, ◌<◌, ◌≤◌, drop, min, Bool, true, false, cond, List, [], ◌∷◌, ◌++◌, length, get_or, set, take, Ok, Err, Result, sym, refl, ap, ◌∙◌, subst, ap₂, arith}
-use Rattle.std.proofs.lemmas.List.{append-nil, append_assoc, length-append, length-drop, length-take-le, take_min, take_more, take_more_set, take-append-drop, drop-set-lt, drop-drop}
-use Rattle.std.proofs.Math.Seq.{drop-cons}
+use Rattle.std.proofs.lemmas.List.{append-nil, append_assoc, length-append, length-take-le, take_min, take_more, take_more_set, take-append-drop, drop-set-lt, drop-drop}
 use Rattle.books.specs.Books.{Meaning, Lawful}
 use Rattle.judging.specs.declared.faults.Refusal.{Refusal}
 use Rattle.judging.specs.declared.places.Phase.{Phase}

@@ -15,14 +15,11 @@ use Rattle.replay.specs.declared.steps.Step.{Step}
 use Rattle.replay.specs.declared.steps.Told.{Told}
 use Rattle.replay.specs.Beginnings.{begun, memory_begun}
 use Rattle.replay.specs.States.{product_in}
-use Rattle.replay.specs.Steps.{Scene, played}
+use Rattle.replay.specs.Steps.{Outcome, Scene, played}
 
--- what steps were told, the product and the memory after them, and all pairs that they put
-pub record Run : Type 0 where
-  pub told : List Told
-  pub product : Product
-  pub memory : List ℕ
-  pub put : List ℕ
+-- the outcome of steps: what each was told, and all pairs that they put
+abbrev pub Run : Type 0
+Run = Outcome (List Told)
 
 abbrev pub followed_by : Scene → Run → Run
 followed_by x y = record { told = x.told ∷ y.told; product = y.product; memory = y.memory; put = x.put ++ y.put }
@@ -59,14 +56,17 @@ abbrev pub ends_in : Result Run NotBegun → Result State NotBegun
 ends_in (Ok x) = Ok (in_phase x.product.phase x.product)
 ends_in (Err e) = Err e
 
+-- what a life that began makes of something, which without a life stays as it was
+abbrev pub after_run : {A : Type 0} → (Run → A → A) → Result Run NotBegun → A → A
+after_run f (Ok x) before = f x before
+after_run f (Err e) before = before
+
 -- the memory and the places for what was told, after it
 abbrev pub ends_with : Result Run NotBegun → List ℕ → List ℕ
-ends_with (Ok x) mem = x.memory
-ends_with (Err e) mem = mem
+ends_with = after_run (λ x _. x.memory)
 
 abbrev pub tells : Result Run NotBegun → List Told → List Told
-tells (Ok x) places = places_after x places
-tells (Err e) places = places
+tells = after_run places_after
 
 -- the sink after it: it took all that the steps put, or is as it was
 abbrev pub Sank : {S : Type 0} → (S → List ℕ) → (S → ℕ) → (S → List ℕ → S → Type 0) → Result Run NotBegun → S → S → Type 0

@@ -16,12 +16,16 @@ use Rattle.replay.specs.declared.steps.Step.TheVariants.{Add, Replace, Withdraw,
 use Rattle.replay.specs.declared.steps.Told.{Told}
 use Rattle.replay.specs.declared.steps.Told.TheVariants.{NotAllowed, Refused, Made, Sent}
 
--- a step's outcome
-pub record Scene : Type 0 where
-  pub told : Told
+-- what was told, the product and the memory after it, and the pairs that were put
+pub record Outcome (T : Type 0) : Type 0 where
+  pub told : T
   pub product : Product
   pub memory : List ℕ
   pub put : List ℕ
+
+-- a step's outcome
+abbrev pub Scene : Type 0
+Scene = Outcome Told
 
 -- the state of the product has no such call
 abbrev pub passed_over : Product → List ℕ → Scene
@@ -43,6 +47,7 @@ abbrev pub told_sending : Result ℕ Refusal → Product → List ℕ → Scene
 told_sending (Ok n) p mem = record { told = Sent n; product = p; memory = mem; put = pairs_in mem (as_closed p) }
 told_sending (Err e) p mem = turned_down e p mem
 
+-- by cases, of which the contracts' goals compute each; the equality that an enum derives computes on numbers of variants
 abbrev pub same_phase : Phase → Phase → Bool
 same_phase Opened Opened = true
 same_phase Opened Shut = false
