@@ -1,10 +1,12 @@
 // Why a script cannot go on.
+ghost use Rattle.commands.specs.Faults.{hex_fault};
 ghost use Rattle.commands.specs.declared.faults.ScriptFault.TheVariants.{NoMemory};
 ghost use Rattle.std.specs.Prelude.{◌≡◌};
 
+use hex::FromHexError;
 use std::alloc::{AllocError, AllocFailed};
 
-#[derive(Clone, Copy)]
+#[derive(Clone, Copy, PartialEq, Eq, Debug)]
 pub enum ScriptFault {
     /// The line is no command.
     Unreadable,
@@ -25,5 +27,16 @@ impl<T: Drop> From<AllocFailed<T>> for ScriptFault {
 
     fn from(_error: AllocFailed<T>) -> ScriptFault {
         ScriptFault::NoMemory
+    }
+}
+
+impl From<FromHexError> for ScriptFault {
+    ghost from_gives = { λ error r. r ≡ hex_fault error };
+
+    fn from(error: FromHexError) -> ScriptFault {
+        match error {
+            FromHexError::OutOfMemory => ScriptFault::NoMemory,
+            _ => ScriptFault::Unreadable,
+        }
     }
 }

@@ -2,7 +2,6 @@
 ghost use Rattle.std.specs.Prelude.{◌≤◌};
 
 use crate::faults::ScriptFault;
-use hex::FromHexError;
 use std::alloc::Global;
 
 /// What the digits of a number count.
@@ -26,18 +25,11 @@ impl Base {
 
 /// A number without a sign. One that is too large counts as the largest.
 pub(crate) fn read_natural(word: &str, base: Base) -> Result<usize, ScriptFault> {
-    if word.is_empty() {
+    let radix = base.radix();
+    if word.is_empty() || !word.chars().all(|letter| letter.is_digit(radix)) {
         return Err(ScriptFault::Unreadable);
     }
-    let radix = base.radix();
-    let mut value = 0usize;
-    for letter in word.chars() {
-        let digit = letter.to_digit(radix).ok_or(ScriptFault::Unreadable)?;
-        value = value
-            .saturating_mul(radix as usize)
-            .saturating_add(digit as usize);
-    }
-    Ok(value)
+    Ok(usize::from_str_radix(word, radix).unwrap_or(usize::MAX))
 }
 
 /// A byte. A number that is too large counts as 255.
@@ -54,11 +46,10 @@ pub(crate) fn read_byte(word: &str, base: Base) -> Result<u8, ScriptFault> {
 
 /// A number of a list: 32 bits, decimal, with `-` in front where it is negative.
 pub(crate) fn read_number(word: &str) -> Result<i32, ScriptFault> {
-    let (sign, digits) = word
-        .strip_prefix('-')
-        .map_or((1, word), |digits| (-1, digits));
-    let size = i64::try_from(read_natural(digits, Base::Decimal)?).unwrap_or(i64::MAX);
-    i32::try_from(size.saturating_mul(sign)).map_err(|_| ScriptFault::Unreadable)
+    if word.starts_with('+') {
+        return Err(ScriptFault::Unreadable);
+    }
+    word.parse().map_err(|_| ScriptFault::Unreadable)
 }
 
 /// Bytes, each as two hex digits.
@@ -66,8 +57,5 @@ pub(crate) fn read_hex(heap: Global, word: &str) -> Result<Vec<u8>, ScriptFault>
     if word.is_empty() {
         return Err(ScriptFault::Unreadable);
     }
-    hex::decode(heap, word).map_err(|error| match error {
-        FromHexError::OutOfMemory => ScriptFault::NoMemory,
-        _ => ScriptFault::Unreadable,
-    })
+    Ok(hex::decode(heap, word)?)
 }
