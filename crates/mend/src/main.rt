@@ -1,7 +1,7 @@
 // Plays a mending script from standard input: starts or receives a product, and mends it as the script says.
 #![tactic(auto)]
 
-use anyhow::anyhow;
+use anyhow::ensure;
 use scripts::player::Player;
 use std::io;
 use std::io::{BufRead, BufReader};
@@ -21,11 +21,9 @@ fn play_line(
             return Err(error.into());
         }
     };
-    if player.play(rt.alloc(), number, text.as_str(), &mut rt.stdout())? {
-        Ok(())
-    } else {
-        Err(anyhow!("a line is unreadable"))
-    }
+    let played = player.play(rt.alloc(), number, text.as_str(), &mut rt.stdout())?;
+    ensure!(played, "a line is unreadable");
+    Ok(())
 }
 
 fn main(rt: HostRuntime) -> anyhow::Result<()> {

@@ -3,14 +3,12 @@ ghost use Rattle.scripts.specs.Playing.{unbegun};
 ghost use Rattle.std.specs.Prelude.{◌≡◌};
 
 use judging::faults::ReceiptFault;
-use lines::refusals::{offset_told, rule_told};
-use printing::print_refusal;
+use lines::refusals::{refusal_line, rule_and_offset};
 use replay::beginning::NotBegun;
 use replay::steps::Told;
-use std::io;
-use std::io::Write;
+use std::fmt;
 
-#[derive(Clone, Copy)]
+#[derive(Clone, Copy, PartialEq, Eq, Debug)]
 pub(crate) enum Answer {
     /// The memory has so many bytes now.
     Sized(usize),
@@ -30,31 +28,22 @@ impl From<NotBegun> for Answer {
     }
 }
 
-// A function: `Display` for `Told` would have to stand in its own crate, which knows nothing of these lines.
-fn print_told(output: &mut impl Write, told: Told) -> io::Result<()> {
-    match told {
-        Told::NotAllowed => writeln!(output, "not-allowed"),
-        Told::Refused(refusal) => {
-            let number = refusal.number();
-            let field = refusal.field();
-            let rule = rule_told(field);
-            let offset = offset_told(field);
-            writeln!(output, "refused={number} rule={rule} offset={offset}")
+/// The end of the line that answers a command, behind the command's word and a blank.
+impl fmt::Display for Answer {
+    fn fmt<W: fmt::Write>(&self, f: &mut fmt::Formatter<W>) -> fmt::Result {
+        match *self {
+            Answer::Sized(size) => writeln!(f, "{size}"),
+            Answer::Told(Told::NotAllowed) => writeln!(f, "not-allowed"),
+            Answer::Told(Told::Refused(refusal)) => {
+                let number = refusal.number();
+                let (rule, offset) = rule_and_offset(refusal.field());
+                writeln!(f, "refused={number} rule={rule} offset={offset}")
+            }
+            Answer::Told(Told::Made { bytes, blocks }) => {
+                writeln!(f, "bytes={bytes} blocks={blocks}")
+            }
+            Answer::Told(Told::Sent { pairs }) => writeln!(f, "pairs={pairs}"),
+            Answer::NotReceived(fault) => write!(f, "{}", refusal_line(fault)),
         }
-        Told::Made { bytes, blocks } => writeln!(output, "bytes={bytes} blocks={blocks}"),
-        Told::Sent { pairs } => writeln!(output, "pairs={pairs}"),
-    }
-}
-
-impl Answer {
-    /// Prints the one line that answers a command, which its word begins.
-    pub(crate) fn print(self, output: &mut impl Write, word: &str) -> anyhow::Result<()> {
-        write!(output, "{word} ")?;
-        match self {
-            Answer::Sized(size) => writeln!(output, "{size}")?,
-            Answer::Told(told) => print_told(output, told)?,
-            Answer::NotReceived(fault) => print_refusal(output, fault)?,
-        }
-        Ok(())
     }
 }

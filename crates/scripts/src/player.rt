@@ -40,12 +40,6 @@ impl Player {
         })
     }
 
-    fn take_turn(&mut self, command: Command) -> Answer
-        ensures { turn result self.new.memory.items (of_stages self.new.stage) ≡ turn_by self.old.memory.items (of_stages self.old.stage) command }
-    {
-        take_turn(&mut self.memory, &mut self.stage, command)
-    }
-
     /// Does what a command says, as far as it is allowed, and answers it. Without memory for `memory` all stays as it was.
     fn answer(&mut self, heap: Global, command: Command) -> Result<Answer, AllocError>
         ensures { MatchResult result (λ a. turn a self.new.memory.items (of_stages self.new.stage) ≡ answer_by self.old.memory.items (of_stages self.old.stage) command) (λ _. self.new ≡ self.old) }
@@ -55,7 +49,7 @@ impl Player {
                 self.memory = zeros(heap, size)?;
                 Ok(Answer::Sized(size))
             }
-            _ => Ok(self.take_turn(command)),
+            _ => Ok(take_turn(&mut self.memory, &mut self.stage, command)),
         }
     }
 
@@ -71,10 +65,11 @@ impl Player {
     {
         let word = command.word();
         let answer = self.answer(heap, command)?;
-        answer.print(output, word)
+        Ok(write!(output, "{word} {answer}")?)
     }
 
     /// Plays a line of a script, or prints that it is unreadable. Tells whether it was a command.
+    // No error for a line that is none: it was answered by a line of its own, and the caller says whether the play fails by it.
     pub fn play(
         &mut self,
         heap: Global,

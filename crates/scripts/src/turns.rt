@@ -18,11 +18,7 @@ fn begin_product(memory: &mut [u8], stage: &mut Option<State>, beginning: &Begin
         return Answer::Told(Told::NotAllowed);
     }
     match begin(beginning, memory, &FourKinds) {
-        Ok(state) => {
-            let told = state.tally().into();
-            *stage = Some(state);
-            Answer::Told(told)
-        }
+        Ok(state) => Answer::Told(stage.insert(state).tally().into()),
         Err(why) => why.into(),
     }
 }
