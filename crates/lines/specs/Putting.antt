@@ -11,7 +11,7 @@ abbrev pub put_answer : Result Line Refusal → List ℕ → Result ℕ Refusal
 put_answer (Ok line) out = ok_or (length_told (line_text line) out) NoRoom
 put_answer (Err e) out = Err e
 
--- the memory after it, which no refusal alters
+-- the memory after it, which no refusal alters (by cases of its own: what a call on a product leaves is told by another result)
 abbrev pub put_after : Result Line Refusal → List ℕ → List ℕ
 put_after (Ok line) out = laid (line_text line) out
 put_after (Err e) out = out

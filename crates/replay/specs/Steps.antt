@@ -47,7 +47,7 @@ abbrev pub told_sending : Result ℕ Refusal → Product → List ℕ → Scene
 told_sending (Ok n) p mem = record { told = Sent n; product = p; memory = mem; put = pairs_in mem (as_closed p) }
 told_sending (Err e) p mem = turned_down e p mem
 
--- by cases, of which the contracts' goals compute each; the equality that an enum derives computes on numbers of variants
+-- by cases, which compute as they stand: the equality that an enum derives is a test of the numbers of its variants
 abbrev pub same_phase : Phase → Phase → Bool
 same_phase Opened Opened = true
 same_phase Opened Shut = false

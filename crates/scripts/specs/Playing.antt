@@ -1,5 +1,6 @@
 -- What a player answers, and what it then has: the bytes of its memory, and the product once there is one.
-use Rattle.std.specs.Prelude.{ℕ, min, List, ◌++◌, length, take, drop, replicate, Some, None, Ok, Err, vec_items, Option, Result}
+use Rattle.std.specs.Prelude.{ℕ, min, List, length, take, replicate, Some, None, Ok, Err, vec_items, Option, Result}
+use Rattle.memory.specs.Laid.{laid}
 use Rattle.four_kinds.specs.FourKinds.{four_kinds}
 use Rattle.products.specs.Products.{Product}
 use Rattle.replay.specs.declared.beginning.Beginning.{Beginning}
@@ -58,7 +59,7 @@ begun_by mem (Some p) b = not_allowed mem (Some p)
 
 -- bytes at the front of a memory, as many as fit
 abbrev pub laid_by : List ℕ → List ℕ → List ℕ
-laid_by bs mem = take (min (length bs) (length mem)) bs ++ drop (min (length bs) (length mem)) mem
+laid_by bs mem = laid mem 0 (take (min (length bs) (length mem)) bs)
 
 abbrev pub received_by : List ℕ → Option Product → List ℕ → Turn
 received_by mem None bs = begun_by (laid_by bs mem) None (Receiving (length bs))

@@ -47,6 +47,7 @@ line_text (Refusal l) = refusal_text l
 abbrev pub length_told : List ℕ → List ℕ → Option ℕ
 length_told line memory = cond (nat_le (length line) (length memory)) (Some (length line)) None
 
--- the memory with the line at its front, or as it was where it is short
+-- the memory with the line at its front, or as it was where it is short (apart from `memory`, which lays bytes at any place and
+-- asks for no room; this crate does not rest on it)
 abbrev pub laid : List ℕ → List ℕ → List ℕ
 laid line memory = cond (nat_le (length line) (length memory)) (line ++ drop (length line) memory) memory
