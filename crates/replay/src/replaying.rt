@@ -26,7 +26,7 @@ fn play_all<B: Book, S: Sink>(
     ensures lived { Lived S.Sink.taken S.Sink.room (B.meaning book.now) sink.old (product_in start) memory.old sink.old → Lived S.Sink.taken S.Sink.room (B.meaning book.now) sink.old (product_in result) memory.new sink.new }
 {
     let mut state = start;
-    // No effect: `space` promises the first fact of a sink, that it has put nothing yet.
+    // For its promise alone: that a sink which takes nothing is as it was.
     let _ = sink.space();
     // By index: after a `zip` of `iter_mut` a proof knows nothing of the place.
     for (index, place) in told.iter_mut().enumerate() {
