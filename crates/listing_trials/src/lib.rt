@@ -6,13 +6,13 @@ ghost use Rattle.std.specs.Prelude.{◌<◌};
 #[cfg(test)]
 mod tests {
     use books::plain::PlainWords;
-    use judging::faults::{BlockFault, Place, Refusal};
+    use judging::faults::{BlockFault, Refusal};
     use lines::listing::write_line;
     use lines::refusals::write_refusal;
     use products::closed::Closed;
     use reading::facts::{Facts, Part, block_facts};
     use std::test::Fail;
-    use trial_tools::just_fits;
+    use trial_tools::{just_fits, not_held};
     use wire::blocks::Malformed;
     use wire::classes::Class;
     use wire::forms::Form;
@@ -24,11 +24,6 @@ mod tests {
 
     fn winds() -> Result<Closed, Fail> {
         Ok(Closed::receive(&WINDS, 44, &PlainWords)?)
-    }
-
-    // The memory does not hold the product.
-    fn not_held(fault: impl Into<BlockFault>, block: usize, at: usize) -> Refusal {
-        Place { block, at }.fault(fault.into()).into()
     }
 
     // The numbers of the refusals in these trials, and of the forms.
@@ -73,13 +68,16 @@ mod tests {
         assert_eq!(rt; held(&WINDS[..43]), Err(count));
         assert_eq!(rt;
             held(&altered(5, 0x57)),
-            Err(not_held(Malformed::Sum, 0, 0))
+            Err(not_held(Malformed::Sum.into(), 0, 0))
         );
         assert_eq!(rt;
             held(&altered(12, 64)),
-            Err(not_held(Malformed::Mode, 1, 10))
+            Err(not_held(Malformed::Mode.into(), 1, 10))
         );
-        assert_eq!(rt; held(&altered(28, 1)), Err(not_held(Malformed::Sum, 2, 26)));
+        assert_eq!(rt;
+            held(&altered(28, 1)),
+            Err(not_held(Malformed::Sum.into(), 2, 26))
+        );
         Ok(())
     }
 
@@ -141,7 +139,7 @@ mod tests {
         let past = block_facts(&product, &WINDS, &PlainWords, 4);
         assert_eq!(rt; past, Err(Refusal::NoSuchBlock));
         let broken = block_facts(&product, &altered(43, 0), &PlainWords, 9);
-        assert_eq!(rt; broken, Err(not_held(Malformed::Sum, 3, 38)));
+        assert_eq!(rt; broken, Err(not_held(Malformed::Sum.into(), 3, 38)));
         Ok(())
     }
 

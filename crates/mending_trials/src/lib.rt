@@ -5,13 +5,14 @@
 mod tests {
     use books::faults::Rule;
     use four_kinds::FourKinds;
-    use judging::faults::{BlockFault, Place, Refusal};
+    use judging::faults::{BlockFault, Refusal};
     use products::closed::Closed;
     use products::opened::Open;
     use products::tally::Tally;
     use records::drafts::Record;
     use std::process::Abort;
     use std::test::Fail;
+    use trial_tools::not_held;
     use wire::blocks::Malformed;
     use wire::forms::Form;
     use wire::modes::Modes;
@@ -68,11 +69,6 @@ mod tests {
         let mut memory = [FILL; 64];
         let _product = closed_product(&mut memory)?;
         Ok(memory)
-    }
-
-    // The memory does not hold the product.
-    fn not_held(fault: BlockFault, block: usize, at: usize) -> Refusal {
-        Place { block, at }.fault(fault).into()
     }
 
     // The numbers of the refusals in these trials, and the faults of a field in them.

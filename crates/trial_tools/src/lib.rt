@@ -1,12 +1,15 @@
-// What trials of several crates share: cells with two put in, what a call leaves, and words that stand for repetitions.
+// What trials of several crates share: cells with two put in, what a call leaves, refusals, and words that stand for repetitions.
 // No handle of a test is taken: what is told here, a trial asserts.
 #![tactic(auto)]
 
 ghost use Rattle.trial_tools.specs.Trials.{Gives, JustFits, Repeats, Appends};
+ghost use Rattle.judging.specs.Faults.{located};
+ghost use Rattle.judging.specs.declared.faults.Refusal.TheVariants.{NotHeld};
 ghost use Rattle.std.specs.List.{slice_set};
 ghost use Rattle.std.specs.Fn.{FnOnceReturnsAtMut};
 ghost use Rattle.std.specs.Prelude.{◌≡◌, ◌<◌, ◌≤◌, length, IfSome, IfOk, OnOk, OnErr, IsOk, ◌↔◌};
 
+use judging::faults::{BlockFault, Place, Refusal};
 use std::alloc::Global;
 
 /// A place is past the last cell.
@@ -73,6 +76,13 @@ pub fn just_fits<R: Drop, F: Fn(&mut [u8]) -> R>(text: &str, write: F) -> Option
     let told = answer_if(&write, &mut long[..size], text.as_bytes())?;
     let refused = answer_if(&write, &mut short[..size - 1], &marks[..size - 1])?;
     Some((told, refused))
+}
+
+/// The refusal of a call on a memory that does not hold the product.
+pub fn not_held(fault: BlockFault, block: usize, at: usize) -> Refusal
+    ensures { result ≡ NotHeld (located block at fault) }
+{
+    Place { block, at }.fault(fault).into()
 }
 
 /// How often a word stands there, and the word: `N*WORD`, or the word itself once.
