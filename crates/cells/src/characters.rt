@@ -27,6 +27,7 @@ impl Element for i32 {
     }
 }
 
+// As in books, but by another test: one function for both would take the test as a closure, and be the library's `position`.
 /// The index of the first element that is no character.
 pub fn first_outside<E: Element>(elements: &[E]) -> Option<usize>
     ensures { result ≡ position (λ e. not (is_some (E.Element.reads e))) elements.now }

@@ -24,8 +24,10 @@ pub fn print_line<W: Write, B: Book>(
 ) -> anyhow::Result<()>
     ensures { OnOk result (Prints (W.contents output.old) (W.contents output.new) (line_of (B.meaning book.now) memory.now product.now number)) }
 {
-    let line = line(product, memory, book, number)
-        .map_err(|refusal| anyhow!("no line: refused={}", refusal.number()))?;
+    let line = line(product, memory, book, number).map_err(|refusal| anyhow!(
+        "no line: refused={}",
+        refusal.number()
+    ))?;
     Ok(write!(output, "{line}")?)
 }
 

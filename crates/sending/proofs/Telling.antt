@@ -1,6 +1,6 @@
 -- From what the pairs of a product find in the sink to the answer of its sending.
-use Rattle.std.proofs.Common.{◌≡◌, ℕ, ◌-◌, Bool, true, false, cond, List, length, take, Ok, Err, Result, refl, ap, arith}
-use Rattle.std.specs.Prelude.{nat_lt, MatchResult, IsErrAnd}
+use Rattle.std.proofs.Common.{◌≡◌, ℕ, ◌-◌, Bool, true, false, cond, List, length, take, Ok, Err, refl, ap, arith}
+use Rattle.std.specs.Prelude.{nat_lt}
 use Rattle.wire.specs.Pairs.{pairs}
 use Rattle.wire.specs.Steps.{◌>>=◌, refuse, blame}
 use Rattle.books.specs.Books.{Meaning}

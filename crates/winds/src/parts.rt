@@ -18,6 +18,7 @@ pub(crate) const BARB_NUMBERS: usize = 6;
 /// The most barbs of a data field.
 const MOST_BARBS: usize = 409;
 
+// A test of its own: the lengths of this kind are counts of barbs, and no bounds.
 /// How many barbs a length holds, where each takes `each` of it.
 pub(crate) fn count_barbs(length: usize, each: usize, rule: Rule) -> Result<usize, FieldFault>
     requires { (0 < each) × (each ≤ 10) }

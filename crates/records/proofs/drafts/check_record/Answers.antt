@@ -1,4 +1,4 @@
-use Rattle.std.proofs.Common.{◌≡◌, ◌+◌, ◌*◌, false, Some, Ok, sym, ap, ◌∙◌, arith, rules}
+use Rattle.std.proofs.Common.{◌≡◌, ◌+◌, false, Some, Ok, sym, ap, ◌∙◌, arith, rules}
 use Rattle.wire.specs.Forms.{form_of}
 use Rattle.wire.proofs.Coding.{checksum_fits}
 use Rattle.judging.specs.Places.{astray}

@@ -1,4 +1,4 @@
-use Rattle.std.proofs.Common.{◌+◌, sym, ◌∙◌, arith, rules}
+use Rattle.std.proofs.Common.{◌+◌, sym, ◌∙◌, arith}
 use Rattle.wire.proofs.Passing.{same_ok}
 use Rattle.products.proofs.Leaving.{memory_left, shut_left}
 use Rattle.products.proofs.opened.Open.shut.Goals as goal
