@@ -7,7 +7,7 @@ ghost use Rattle.judging.specs.Faults.{located};
 ghost use Rattle.judging.specs.declared.faults.Refusal.TheVariants.{NotHeld};
 ghost use Rattle.std.specs.List.{slice_set};
 ghost use Rattle.std.specs.Fn.{FnOnceReturnsAtMut};
-ghost use Rattle.std.specs.Prelude.{◌≡◌, ◌<◌, ◌≤◌, length, IfSome, IfOk, OnOk, OnErr, IsOk, ◌↔◌};
+ghost use Rattle.std.specs.Prelude.{◌≡◌, ◌<◌, length, IfSome, IfOk, OnOk, OnErr, IsOk, ◌↔◌};
 
 use judging::faults::{BlockFault, Place, Refusal};
 use std::alloc::Global;
