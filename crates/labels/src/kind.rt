@@ -32,7 +32,7 @@ impl Kind for Labels {
     }
 
     fn number(&self, field: &[u8], index: usize) -> Option<i32> {
-        // A match: an `Option` from `number_at` would wrap each of its arms.
+        // A match: a chain of `filter` and `map` would carry through closures what `number_at` asks of the field.
         match self.judge(field) {
             Ok(count) if index < count => Some(number_at(field, index)),
             _ => None,

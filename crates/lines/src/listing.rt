@@ -56,6 +56,7 @@ pub fn line<B: Book>(
     }
 }
 
+// Into the caller's memory, as `Line::write` does: nothing is allocated here.
 /// Writes that line at the front of `out` and tells its length.
 pub fn write_line<B: Book>(
     product: &Closed,

@@ -14,6 +14,7 @@ pub fn rule_and_offset(fault: Option<FieldFault>) -> (u8, usize)
     fault.map_or((0, 0), |fault| (fault.rule.number(), fault.place))
 }
 
+// This and the next are names of one part each, for callers who want no pair.
 /// The number of the rule that is broken, and 0 where none is.
 pub fn rule_told(fault: Option<FieldFault>) -> u8
     ensures { result ≡ rule_told fault }
@@ -42,6 +43,7 @@ pub fn refusal_line(refused: ReceiptFault) -> Line
     })
 }
 
+// Into the caller's memory, as `Line::write` does: nothing is allocated here.
 /// Writes that line at the front of `out` and tells its length.
 pub fn write_refusal(refused: ReceiptFault, out: &mut [u8]) -> Result<usize, Refusal>
     ensures answer { result ≡ put_answer (Ok (refusal_line refused)) out.old }

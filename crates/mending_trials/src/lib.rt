@@ -105,6 +105,7 @@ mod tests {
 
     const GIVEN: [i32; 7] = [1, 2, 3, 4, 5, 6, 7];
 
+    // A function for each call, of three lines: one for all would take the call as a closure of that length.
     fn add(memory: &mut [u8]) -> Result<Told, Fail> {
         let mut product = open_product(&mut [FILL; 64])?;
         let answer = product.add(memory, &FourKinds, record(1, 2, 0, &GIVEN));

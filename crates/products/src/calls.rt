@@ -1,6 +1,7 @@
 // The calls that start, mend, close and reopen a product.
 // Memory and book are arguments of each: the memory is lent anew every time, and a struct of both would be made and
 // taken apart at each call. Forms are given as any number: one that no form has is refused.
+// `start` takes three numbers and lists where a script has an `Opening`: that owns its list, and a call needs no heap.
 ghost use Rattle.products.specs.Answers.{Mends, memory_after, opened_by, closed_by, shut_by, reopened_by};
 ghost use Rattle.products.specs.Calls.{outcome, started, adds, replaces, withdraws, closes, reopens};
 ghost use Rattle.products.specs.Plans.{Planned, Ready};

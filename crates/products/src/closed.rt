@@ -6,6 +6,7 @@ use crate::tally::Tally;
 use wire::forms::Form;
 
 /// A closed product. Its bytes are the first of the memory that is given with each call.
+// Numbers beside a memory, and no buffer: the memory is the caller's. See `Open` for why the two are two types.
 #[derive(Drop)]
 pub struct Closed {
     pub(crate) bytes: usize,

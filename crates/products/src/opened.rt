@@ -7,7 +7,8 @@ use wire::forms::Form;
 
 /// An open product, which has no end yet. Its bytes are the first of the memory that is given with each call.
 // Apart from `Closed`, though the numbers are the same: a type for each state, with its own calls, so that a call in the
-// wrong state does not compile. One type over a state would carry a marker through every definition, and be no plainer.
+// wrong state does not compile. One type over a state would carry a marker through every definition, and a `Tally` in each
+// would stand between every definition and its number: no plainer.
 #[derive(Drop)]
 pub struct Open {
     pub(crate) bytes: usize,

@@ -71,7 +71,8 @@ pub(crate) fn bars_replacing(block: usize, modes: Modes) -> bool
     is_misplaced(block, modes) || is_end(modes)
 }
 
-// `map_err` here and in `cut`: the crate `memory` knows of no refusals, and the refusals know nothing of memory.
+// `map_err` here and in `cut`: a `From` would make the refusals rest on `memory`, and be no plainer. That a part lies within
+// the product is asked here and not by its type: `make_gap` answers any part, and a type would ask more.
 /// Puts the block of a record in the place of a part of a product's bytes, and tells how many it then has.
 pub(crate) fn put_block<B: Book>(
     memory: &mut [u8],

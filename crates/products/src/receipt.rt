@@ -27,6 +27,7 @@ pub(crate) fn check_count(size: usize, count: usize) -> Result<(), BlockFault>
     Ok(())
 }
 
+// Apart from the walk over an open product, which says why.
 fn walk_blocks<B: Book>(bytes: &[u8], book: &B) -> Result<Closed, ReceiptFault>
     ensures { result ≡ closed_as (length bytes.now) 0 (closed_walk (B.meaning book.now) most_blocks 0 0 bytes.now) }
 {

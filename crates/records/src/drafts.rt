@@ -37,7 +37,7 @@ fn most_data(form: Form) -> usize
     2 * usize::from(MOST_PAIRS.saturating_sub(form.fewest_pairs()))
 }
 
-// `misfit` is a test that stands between two others: which test it is depends on the call.
+// `misfit` is a test that stands between two others, and differs from call to call: a closure for it would be no plainer.
 /// Checks a record that would become that block of a product; `misfit` says that it may not stand there.
 #[tactic(auto, unfolding(crate::specs::Drafts::drafted))]
 pub fn check_record<B: Book>(

@@ -40,6 +40,7 @@ fn play_all<B: Book, S: Sink>(
     state
 }
 
+// What came of the steps goes into places that the caller has: nothing is allocated here.
 /// Begins a life and plays the steps, as many as there are places to tell what came of them.
 pub fn replay<B: Book, S: Sink>(
     beginning: &Beginning,

@@ -3,7 +3,6 @@ ghost use Rattle.scripts.specs.Playing.{turn, turn_by, answer_by, of_stages};
 ghost use Rattle.std.specs.Prelude.{◌≡◌, false, replicate, IfOk, None, MatchResult, OnOk};
 
 use crate::answers::Answer;
-use crate::turns::take_turn;
 use anyhow::anyhow;
 use commands::command::Command;
 use commands::faults::ScriptFault;
@@ -18,8 +17,8 @@ use std::io::Write;
 /// One memory, and the product in it once there is one.
 #[derive(Drop)]
 pub struct Player {
-    memory: Vec<u8>,
-    stage: Option<State>,
+    pub(crate) memory: Vec<u8>,
+    pub(crate) stage: Option<State>,
 }
 
 fn zeros(heap: Global, size: usize) -> Result<Vec<u8>, AllocError>
@@ -49,7 +48,7 @@ impl Player {
                 self.memory = zeros(heap, size)?;
                 Ok(Answer::Sized(size))
             }
-            _ => Ok(take_turn(&mut self.memory, &mut self.stage, command)),
+            _ => Ok(self.take_turn(command)),
         }
     }
 

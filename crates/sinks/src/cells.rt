@@ -26,6 +26,7 @@ pub trait Cell<const WIDTH: usize> {
     ghost back: { (p : ℕ) → p < 2 ^ 16 → worth (cell p) ≡ p };
 }
 
+// A memory and a count, and no `Vec`: the memory is the caller's, and nothing is allocated here.
 /// Fills a memory with a cell for each pair.
 #[derive(Drop)]
 pub struct CellSink<'a, C, const WIDTH: usize> {

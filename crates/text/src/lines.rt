@@ -111,6 +111,7 @@ impl Line {
         }
     }
 
+    // Into the caller's memory, and no `String`: nothing is allocated in these layers.
     /// Puts the line at the front of the memory and tells its length, or leaves a memory that is short of it as it is.
     pub fn write(self, memory: &mut [u8]) -> Option<usize>
         ensures answer { result ≡ length_told (line_text self) memory.old }

@@ -55,6 +55,7 @@ fn ends_in_nul<E: Element>(elements: &[E]) -> bool
     elements.last().and_then(|element| element.character()) == Some(NUL)
 }
 
+// A loop: the index is told, and whether an element is the last is asked by it.
 /// Refuses a text at its first element that breaks a rule; `nul` says that the text ends in NUL.
 fn check_each<T: Text, E: Element>(
     text: &T,

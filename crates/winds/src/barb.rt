@@ -60,7 +60,7 @@ impl From<[i32; 6]> for Barb {
 }
 
 impl Barb {
-    // A name beside `From`: `into` would want the array's type written out.
+    // Beside `From`, which wants the array's type written out: callers have this name.
     /// The six numbers, in their order.
     pub fn numbers(self) -> [i32; 6]
         ensures { result ≡ barb_numbers self }

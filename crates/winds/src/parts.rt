@@ -32,6 +32,7 @@ pub(crate) fn count_barbs(length: usize, each: usize, rule: Rule) -> Result<usiz
     }
 }
 
+// By number: the place of a barb is told where it has a fault, and is reckoned from it.
 /// Checks the barbs of a data field.
 pub(crate) fn check_bytes(field: &[u8]) -> Result<(), FieldFault>
     requires { 2 ≤ length field.now }
