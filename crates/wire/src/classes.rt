@@ -1,5 +1,5 @@
 // The classes of blocks, from three tables.
-ghost use Rattle.wire.specs.Classes.{tabled, class_of, class_name};
+ghost use Rattle.wire.specs.Classes.{among, tabled, class_of, class_name};
 ghost use Rattle.std.specs.Prelude.{◌≡◌, Some};
 
 use crate::modes::Modes;
@@ -52,16 +52,23 @@ const DATA: [(u8, u8); 17] = [
     (7, 0o1),
 ];
 
+/// Whether a table has the mode and submode: `contains` would compare all of it, and each block of each walk asks.
+fn is_among(entry: (u8, u8), table: &[(u8, u8)]) -> bool
+    ensures { result ≡ among entry.0 entry.1 table.now }
+{
+    table.iter().any(|kind| *kind == entry)
+}
+
 #[tactic(auto, unfolding(crate::specs::Classes::tabled))]
 fn from_tables(modes: Modes) -> Class
     ensures { result ≡ tabled modes.mode modes.submode }
 {
     let entry = (modes.mode, modes.submode);
-    if DEFINITIONS.contains(&entry) {
+    if is_among(entry, &DEFINITIONS) {
         Class::Definition
-    } else if DESCRIPTIONS.contains(&entry) {
+    } else if is_among(entry, &DESCRIPTIONS) {
         Class::Description
-    } else if DATA.contains(&entry) {
+    } else if is_among(entry, &DATA) {
         Class::Data
     } else {
         Class::Unknown
