@@ -1,8 +1,9 @@
 -- A loop that puts characters over the bytes of a place.
-use Rattle.std.proofs.Common.{◌≡◌, ℕ, zero, suc, ◌+◌, ◌<◌, ◌≤◌, List, [], ◌∷◌, ◌++◌, map, length, get_or, take, drop, set, Option, refl, sym, ap, ◌∙◌, add-one, arith}
+use Rattle.std.proofs.Common.{◌≡◌, ℕ, zero, suc, ◌+◌, ◌<◌, ◌≤◌, List, [], ◌∷◌, ◌++◌, map, length, get_or, take, drop, set, Option, min, refl, ap, ⊎_elim, add-one, arith}
 use Rattle.std.specs.Prelude.{false, true, ℤ, pos, negsuc, nat_abs, unwrap_or}
 use Rattle.std.specs.List.{AllByRecursion}
-use Rattle.std.proofs.lemmas.List.{drop_all, take-append-drop, set-get_or}
+use Rattle.std.proofs.lemmas.Bool.{cases_lt}
+use Rattle.std.proofs.lemmas.List.{drop_all, take-append-drop}
 use Rattle.books.specs.Words.{within}
 use Rattle.cells.specs.Characters.{top_character, number_character, put_over}
 
@@ -24,22 +25,24 @@ module _ {X : Type 0} (reads : X → Option ℕ) where
   put_all : (i : ℕ) (xs : List X) (place : List ℕ) → length xs ≤ i → put_from i xs place ≡ place
   put_all i xs place l = let d = drop_all i xs l in rw d (take-append-drop i place)
 
-  pub put_none : (i : ℕ) (xs : List X) (place placed : List ℕ) → length xs ≤ i → i < length place → placed ≡ set place i (get_or place i 0) → put_from (i + 1) xs placed ≡ put_from i xs place
-  put_none i xs place placed l m e =
-      let s = set-get_or place i 0 in
-      rw (e, s) (put_all (i + 1) xs place (omega arith) ∙ sym (put_all i xs place l))
-
   put_nothing : (cs : List (Option ℕ)) → put_over cs [] ≡ []
   put_nothing [] = refl
   put_nothing (c ∷ cs) = refl
 
-  -- the end of the place
-  pub put_end : (i : ℕ) (xs : List X) (place : List ℕ) → length place ≤ i → put_from i xs place ≡ place
+  put_end : (i : ℕ) (xs : List X) (place : List ℕ) → length place ≤ i → put_from i xs place ≡ place
   put_end i xs place l =
       let d = drop_all i place l in
       let n = put_nothing (map reads (drop i xs)) in
       let t = take-append-drop i place in
       rw (d, n) (rw d at t)
+
+  -- the end of the elements or of the place
+  pub put_done : (i : ℕ) (xs : List X) (place : List ℕ) → min (length xs) (length place) ≤ i → put_from i xs place ≡ place
+  put_done i xs place l =
+      ⊎_elim
+      (λ m. put_end i xs place (omega arith))
+      (λ m. put_all i xs place m)
+      (cases_lt i (length xs))
 
 -- numbers that are all characters fill a place of as many bytes
 pub put_numbers : (list : List ℤ) (place : List ℕ) → AllByRecursion (λ z. within top_character z ≡ true) list → length place ≡ length list → put_over (map number_character list) place ≡ map nat_abs list

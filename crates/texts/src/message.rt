@@ -31,8 +31,9 @@ impl Text for Message {
     fn broken_rule(&self, character: u8, last: bool, nul: bool) -> Option<Rule> {
         match character {
             NUL | ETX | ETB if last => None,
-            NUL | ETX | ETB => Some(Rule::EarlyEnd),
+            // Before the next arm, so that of most characters a run asks each thing once.
             _ if last => Some(Rule::WrongEnd),
+            NUL | ETX | ETB => Some(Rule::EarlyEnd),
             RS if nul => Some(Rule::StraySeparator),
             _ => None,
         }

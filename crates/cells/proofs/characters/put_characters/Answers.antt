@@ -1,21 +1,20 @@
-use Rattle.std.proofs.Common.{sym, ◌∙◌, arith, rules}
-use Rattle.cells.proofs.Putting.{put_more, put_none, put_end}
+use Rattle.std.proofs.Common.{refl, sym, ◌∙◌, arith}
+use Rattle.std.proofs.lemmas.List.{get_or-take, length-take-le}
+use Rattle.cells.proofs.Putting.{put_more, put_done}
 use Rattle.cells.proofs.characters.put_characters.Goals as goal
-use Rattle.cells.proofs.characters.put_characters.Goals.{in-Some, in_default}
 
 pub loop-index-preserved : goal.loop-index-preserved
 loop-index-preserved g c =
-    let reads = g.E.Element.reads in
+    let n = c.min-common.result in
     let i = c.loop-index.index in
     let xs = c.args.elements.now in
-    let place = c.loop-index.place in
-    elim c.match-get.branch [
-      | in-Some w ↦
-          let at = w.in-Some.ensures.lookup in
-          put_more reads i xs place c.match-get.place w.in-Some.element.now w.character.result w.unwrap_or.result at.3.0 (omega arith) at.1 w.character.ensures w.unwrap_or.ensures w.place-is ∙ c.loop-index.invariant
-      | in_default w ↦
-          put_none reads i xs place c.match-get.place (search rules) (omega arith) w.place-is ∙ c.loop-index.invariant
-    ]
+    let x = c.element-item.result in
+    let t = length-take-le n xs (omega arith) in
+    let e = c.element-item.is ∙ get_or-take n xs i x (omega arith) in
+    put_more g.E.Element.reads i xs c.loop-index.place _ x c.character.result c.unwrap_or.result (omega arith) (omega arith) e c.character.ensures c.unwrap_or.ensures refl ∙ c.loop-index.invariant
 
 pub returns : goal.returns
-returns g c = sym (put_end g.E.Element.reads c.loop-index.index c.args.elements.now c.loop-index.place (omega arith)) ∙ c.loop-index.invariant
+returns g c =
+    let xs = c.args.elements.now in
+    let t = length-take-le c.min-common.result xs (omega arith) in
+    sym (put_done g.E.Element.reads c.loop-index.index xs c.loop-index.place (omega arith)) ∙ c.loop-index.invariant
