@@ -24,12 +24,23 @@ impl Base {
 }
 
 /// A number without a sign. One that is too large counts as the largest.
+// In one walk, and not by `from_str_radix`: that stops at a number that is too large, and what follows may be no digit. With no
+// other base in the program, `parse` below is compiled for base 10 alone.
 pub(crate) fn read_natural(word: &str, base: Base) -> Result<usize, ScriptFault> {
     let radix = base.radix();
-    if word.is_empty() || !word.chars().all(|letter| letter.is_digit(radix)) {
+    if word.is_empty() {
         return Err(ScriptFault::Unreadable);
     }
-    Ok(usize::from_str_radix(word, radix).unwrap_or(usize::MAX))
+    word.bytes().try_fold(0usize, |value, byte| {
+        let digit = char::from(byte)
+            .to_digit(radix)
+            .ok_or(ScriptFault::Unreadable)?;
+        Ok(
+            value
+                .saturating_mul(radix as usize)
+                .saturating_add(digit as usize),
+        )
+    })
 }
 
 /// A byte. A number that is too large counts as 255.
