@@ -8,12 +8,20 @@ ghost use Rattle.std.specs.Prelude.{suc, OnOk, Ok};
 
 use anyhow::anyhow;
 use books::book::Book;
-use judging::faults::ReceiptFault;
-use lines::listing::line;
-use lines::refusals::refusal_line;
+use judging::faults::{ReceiptFault, Refusal};
+use lines::listing::write_line;
+use lines::refusals::write_refusal;
 use products::closed::Closed;
 use std::io::Write;
 
+/// More than any line has.
+const LINE_BYTES: usize = 256;
+
+fn no_line(refusal: Refusal) -> anyhow::Error {
+    anyhow!("no line: refused={}", refusal.number())
+}
+
+// By `write_line` and not by `Display` of a line, of which something is promised only where it answers `Ok`.
 /// Prints line 0, the product's, or line k, that of block k - 1.
 pub fn print_line<W: Write, B: Book>(
     output: &mut W,
@@ -24,11 +32,9 @@ pub fn print_line<W: Write, B: Book>(
 ) -> anyhow::Result<()>
     ensures { OnOk result (Prints (W.contents output.old) (W.contents output.new) (line_of (B.meaning book.now) memory.now product.now number)) }
 {
-    let line = line(product, memory, book, number).map_err(|refusal| anyhow!(
-        "no line: refused={}",
-        refusal.number()
-    ))?;
-    Ok(write!(output, "{line}")?)
+    let mut line = [0; LINE_BYTES];
+    let length = write_line(product, memory, book, number, &mut line).map_err(no_line)?;
+    Ok(output.write_all(&line[..length])?)
 }
 
 /// Prints all lines of a closed product.
@@ -50,6 +56,7 @@ pub fn print_listing<W: Write, B: Book>(
 pub fn print_refusal<W: Write>(output: &mut W, refused: ReceiptFault) -> anyhow::Result<()>
     ensures { OnOk result (Prints (W.contents output.old) (W.contents output.new) (Ok (refusal_line refused))) }
 {
-    let line = refusal_line(refused);
-    Ok(write!(output, "{line}")?)
+    let mut line = [0; LINE_BYTES];
+    let length = write_refusal(refused, &mut line).map_err(no_line)?;
+    Ok(output.write_all(&line[..length])?)
 }

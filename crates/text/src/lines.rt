@@ -101,7 +101,8 @@ impl RefusalLine {
 }
 
 impl Line {
-    fn text(self) -> Text
+    /// The text of the line, with byte 10 at its end.
+    pub fn text(self) -> Text
         ensures { result.bytes ≡ line_text self }
     {
         match self {
