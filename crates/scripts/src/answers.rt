@@ -28,22 +28,27 @@ impl From<NotBegun> for Answer {
     }
 }
 
-/// The end of the line that answers a command, behind the command's word and a blank.
+/// The end of the line that answers a command, behind the command's word.
+// The blank stands in the piece that follows it: standard output has no buffer, and each piece of a format is a write to it.
 impl fmt::Display for Answer {
     fn fmt<W: fmt::Write>(&self, f: &mut fmt::Formatter<W>) -> fmt::Result {
         match *self {
-            Answer::Sized(size) => writeln!(f, "{size}"),
-            Answer::Told(Told::NotAllowed) => writeln!(f, "not-allowed"),
+            Answer::Sized(size) => writeln!(f, " {size}"),
+            Answer::Told(Told::NotAllowed) => writeln!(f, " not-allowed"),
             Answer::Told(Told::Refused(refusal)) => {
                 let number = refusal.number();
                 let (rule, offset) = rule_and_offset(refusal.field());
-                writeln!(f, "refused={number} rule={rule} offset={offset}")
+                writeln!(f, " refused={number} rule={rule} offset={offset}")
             }
             Answer::Told(Told::Made { bytes, blocks }) => {
-                writeln!(f, "bytes={bytes} blocks={blocks}")
+                writeln!(f, " bytes={bytes} blocks={blocks}")
             }
-            Answer::Told(Told::Sent { pairs }) => writeln!(f, "pairs={pairs}"),
-            Answer::NotReceived(fault) => write!(f, "{}", refusal_line(fault)),
+            Answer::Told(Told::Sent { pairs }) => writeln!(f, " pairs={pairs}"),
+            Answer::NotReceived(fault) => {
+                f.write_str(" ")?;
+                // By `text`, which promises each byte; `Display` of a line does where it answers `Ok`.
+                f.write_str(refusal_line(fault).text().as_str())
+            }
         }
     }
 }

@@ -64,7 +64,7 @@ impl Player {
     {
         let word = command.word();
         let answer = self.answer(heap, command)?;
-        Ok(write!(output, "{word} {answer}")?)
+        Ok(write!(output, "{word}{answer}")?)
     }
 
     /// Plays a line of a script, or prints that it is unreadable. Tells whether it was a command.
