@@ -17,7 +17,7 @@ use std::fmt;
 use texts::characters::Characters;
 use texts::message::Message;
 use texts::routing::Routing;
-use trial_tools::{push_part, repetition};
+use trial_tools::repetition;
 use winds::kind::Winds;
 use wire::modes::Modes;
 
@@ -73,10 +73,24 @@ impl fmt::Display for Answer {
     }
 }
 
+// No `hex::decode`, nor the `push_part` that rests on it: a byte is read as a number, so `+5` is one, and half a byte has its own error.
+fn read_hex(heap: Global, hex: &str) -> anyhow::Result<Vec<u8>> {
+    if hex.len() % 2 != 0 {
+        return Err(anyhow!("half a byte"));
+    }
+    let mut bytes = Vec::new(heap);
+    for two in hex.as_bytes().chunks(2) {
+        bytes.push(u8::from_str_radix(std::str::from_utf8(two)?, 16)?)?;
+    }
+    Ok(bytes)
+}
+
 fn read_field(heap: Global, words: &[&str]) -> anyhow::Result<Vec<u8>> {
     let mut field = Vec::new(heap);
     for word in words {
-        push_part(heap, &mut field, word)?;
+        let (times, hex) = repetition(word)?;
+        let bytes = read_hex(heap, hex)?.repeat(heap, times)?;
+        field.extend_from_slice(&bytes)?;
     }
     Ok(field)
 }

@@ -6,7 +6,6 @@ use anyhow::{Context, anyhow};
 use scripts::player::Player;
 use std::alloc::Global;
 use std::io::{BufRead, BufReader, Write};
-use trial_tools::repetition;
 
 /// A script under way.
 #[derive(Drop)]
@@ -58,8 +57,9 @@ impl Case {
 }
 
 /// Adds the word that many times, each with a blank before it.
-fn push_words(line: &mut String, times: usize, word: &str) -> anyhow::Result<()> {
-    for _ in 0..times {
+// No `repetition` of `trial_tools`: a count that is no `u32` is refused, before it can fill memory.
+fn push_words(line: &mut String, times: &str, word: &str) -> anyhow::Result<()> {
+    for _ in 0..times.parse::<u32>()? {
         line.push(' ')?;
         line.push_str(word)?;
     }
@@ -71,7 +71,7 @@ fn expand(heap: Global, short: &str) -> anyhow::Result<String> {
     let mut words = short.split(' ');
     let mut line = String::from_str(heap, words.next().unwrap_or(""))?;
     for word in words {
-        let (times, one) = repetition(word)?;
+        let (times, one) = word.split_once('*').unwrap_or(("1", word));
         push_words(&mut line, times, one)?;
     }
     Ok(line)

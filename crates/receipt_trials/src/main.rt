@@ -2,12 +2,40 @@
 // A line of the table is a name, a count of bytes or `all`, and then parts: hex digits, or `N*` and hex digits for N repetitions.
 #![tactic(auto)]
 
-use anyhow::Context;
+use anyhow::{Context, anyhow};
 use four_kinds::FourKinds;
 use printing::{print_line, print_refusal};
 use products::closed::Closed;
 use std::alloc::Global;
-use trial_tools::push_part;
+use trial_tools::repetition;
+
+fn hex_digit(digit: u8) -> anyhow::Result<u8> {
+    match digit {
+        b'0'..=b'9' => Ok(digit - b'0'),
+        b'a'..=b'f' => Ok(digit - b'a' + 10),
+        b'A'..=b'F' => Ok(digit - b'A' + 10),
+        _ => Err(anyhow!("not a hex digit")),
+    }
+}
+
+/// Adds the bytes of whole pairs of digits. A last digit alone is dropped.
+fn push_hex(memory: &mut Vec<u8>, hex: &str) -> anyhow::Result<()> {
+    for two in hex.as_bytes().chunks_exact(2) {
+        let high = hex_digit(two[0])?;
+        let low = hex_digit(two[1])?;
+        memory.push(high.wrapping_mul(16).wrapping_add(low))?;
+    }
+    Ok(())
+}
+
+// No `push_part` of `trial_tools`: that refuses half a byte, reads digits that stand no times, and holds a repeated piece besides the memory.
+fn push_part(memory: &mut Vec<u8>, part: &str) -> anyhow::Result<()> {
+    let (times, hex) = repetition(part)?;
+    for _ in 0..times {
+        push_hex(memory, hex)?;
+    }
+    Ok(())
+}
 
 fn print_receipt(rt: &HostRuntime, memory: &[u8], count: usize) -> anyhow::Result<()> {
     let output = &mut rt.stdout();
@@ -23,7 +51,7 @@ fn run_case(rt: &HostRuntime, heap: Global, case: &str) -> anyhow::Result<()> {
     let count = words.next().context("no count")?;
     let mut memory = Vec::new(heap);
     for part in words {
-        push_part(heap, &mut memory, part)?;
+        push_part(&mut memory, part)?;
     }
     let count = match count {
         "all" => memory.len(),
