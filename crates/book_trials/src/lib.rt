@@ -1,12 +1,15 @@
 // The four questions of the plain-word book, on tables of cases.
 #![tactic(auto)]
 
+ghost use Rattle.books.specs.Books.{Writes};
+ghost use Rattle.books.specs.Words.{plain};
+
 #[cfg(test)]
 mod tests {
     use books::book::Book;
-    use books::faults::Rule;
+    use books::faults::{FieldFault, Rule};
     use books::plain::PlainWords;
-    use trial_tools::{leaves, put_two};
+    use trial_tools::{Call, leaves, put_two};
     use wire::modes::Modes;
 
     // The plain-word book answers alike at every mode and submode.
@@ -86,21 +89,44 @@ mod tests {
         }
     }
 
+    // A list, written into a place.
+    #[derive(Clone, Copy)]
+    struct Written<'a> {
+        list: &'a [i32],
+    }
+
+    impl<const N: usize> Call<[u8; N], Result<(), FieldFault>> for Written<'_> {
+        ghost gives = { λ w. Writes (plain.writing 4 16 w.list.now) };
+
+        fn call(&self, place: &mut [u8; N]) -> Result<(), FieldFault> {
+            PlainWords.write(MODES, self.list, place)
+        }
+    }
+
     #[test]
     fn write_fills_a_place_of_its_weight_alone(rt: HostRuntime) {
         let short = Err(Rule::DataLength.at(4));
         let long = Err(Rule::DataLength.at(8));
         let range = Err(Rule::NumberRange.at(1));
-        let write = |middle: i32, place: &mut [u8]| {
-            PlainWords.write(MODES, &[258, middle, 65_535], place)
-        };
+        let list = |middle: i32| [258, middle, 65_535];
         let written = (Ok(()), [1, 2, 0, 3, 255, 255]);
-        assert_eq!(rt; leaves([9; 6], |place| write(3, place)), written);
-        assert_eq!(rt; leaves([9; 4], |place| write(3, place)), (short, [9; 4]));
-        assert_eq!(rt; leaves([9; 8], |place| write(3, place)), (long, [9; 8]));
-        assert_eq!(rt; leaves([9; 6], |place| write(-1, place)), (range, [9; 6]));
+        assert_eq!(rt; leaves([9; 6], &Written { list: &list(3) }), written);
         assert_eq!(rt;
-            leaves([9; 8], |place| write(65_536, place)),
+            leaves([9; 4], &Written { list: &list(3) }),
+            (short, [9; 4])
+        );
+        assert_eq!(rt; leaves([9; 8], &Written { list: &list(3) }), (long, [9; 8]));
+        assert_eq!(rt;
+            leaves([9; 6], &Written { list: &list(-1) }),
+            (range, [9; 6])
+        );
+        assert_eq!(rt;
+            leaves(
+                [9; 8],
+                &Written {
+                    list: &list(65_536)
+                }
+            ),
             (range, [9; 8])
         );
     }

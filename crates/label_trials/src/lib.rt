@@ -1,12 +1,15 @@
 // The four questions of characters on a chart, on tables of cases.
 #![tactic(auto)]
 
+ghost use Rattle.books.specs.Books.{Writes};
+ghost use Rattle.labels.specs.Labels.{labels_meaning};
+
 #[cfg(test)]
 mod tests {
-    use books::faults::Rule;
+    use books::faults::{FieldFault, Rule};
     use kinds::kind::Kind;
     use labels::kind::Labels;
-    use trial_tools::{leaves, put_two};
+    use trial_tools::{Call, leaves, put_two};
     use wire::modes::Modes;
 
     // One more than a length that is too long.
@@ -137,6 +140,20 @@ mod tests {
         }
     }
 
+    // A list, written into a place.
+    #[derive(Clone, Copy)]
+    struct Written<'a> {
+        list: &'a [i32],
+    }
+
+    impl<const N: usize> Call<[u8; N], Result<(), FieldFault>> for Written<'_> {
+        ghost gives = { λ w. Writes (labels_meaning.writing w.list.now) };
+
+        fn call(&self, place: &mut [u8; N]) -> Result<(), FieldFault> {
+            Labels.write(self.list, place)
+        }
+    }
+
     #[test]
     fn write_fills_a_place_of_its_weight_alone(rt: HostRuntime) {
         let list = |last: i32| [-32_768, 258, -128, 127, 1, 0, 63, 65, 0, last];
@@ -144,23 +161,23 @@ mod tests {
         let long = Err(Rule::DataLength.at(12));
         let range = Err(Rule::NumberRange.at(9));
         assert_eq!(rt;
-            leaves([9; 10], |place| Labels.write(&list(127), place)),
+            leaves([9; 10], &Written { list: &list(127) }),
             (Ok(()), [128, 0, 1, 2, 128, 127, 0b1011_1111, 65, 0, 127])
         );
         assert_eq!(rt;
-            leaves([9; 8], |place| Labels.write(&list(127), place)),
+            leaves([9; 8], &Written { list: &list(127) }),
             (short, [9; 8])
         );
         assert_eq!(rt;
-            leaves([9; 12], |place| Labels.write(&list(127), place)),
+            leaves([9; 12], &Written { list: &list(127) }),
             (long, [9; 12])
         );
         assert_eq!(rt;
-            leaves([9; 10], |place| Labels.write(&list(128), place)),
+            leaves([9; 10], &Written { list: &list(128) }),
             (range, [9; 10])
         );
         assert_eq!(rt;
-            leaves([9; 8], |place| Labels.write(&list(-1), place)),
+            leaves([9; 8], &Written { list: &list(-1) }),
             (range, [9; 8])
         );
     }

@@ -1,18 +1,22 @@
 // A held product and one that is no longer held, the facts of its blocks, and its lines in memory that is long enough and too short.
 #![tactic(auto)]
 
-ghost use Rattle.std.specs.Prelude.{◌<◌};
+ghost use Rattle.books.specs.Words.{plain};
+ghost use Rattle.lines.specs.Listing.{line_of};
+ghost use Rattle.lines.specs.Putting.{put_answer, put_after};
+ghost use Rattle.lines.specs.Refusals.{refusal_line};
+ghost use Rattle.std.specs.Prelude.{◌≡◌, ◌<◌, Ok};
 
 #[cfg(test)]
 mod tests {
     use books::plain::PlainWords;
-    use judging::faults::{BlockFault, Refusal};
+    use judging::faults::{BlockFault, ReceiptFault, Refusal};
     use lines::listing::write_line;
     use lines::refusals::write_refusal;
     use products::closed::Closed;
     use reading::facts::{Facts, Part, block_facts};
     use std::test::Fail;
-    use trial_tools::{just_fits, not_held};
+    use trial_tools::{Writing, just_fits, not_held};
     use wire::blocks::Malformed;
     use wire::classes::Class;
     use wire::forms::Form;
@@ -143,6 +147,36 @@ mod tests {
         Ok(())
     }
 
+    // A line of a product, written into memory.
+    #[derive(Clone, Copy)]
+    struct Written<'a> {
+        product: &'a Closed,
+        held: &'a [u8],
+        number: usize,
+    }
+
+    impl Writing<Result<usize, Refusal>> for Written<'_> {
+        ghost gives = { λ w before told after. (told ≡ put_answer (line_of plain w.held.now w.product.now w.number) before) × (after ≡ put_after (line_of plain w.held.now w.product.now w.number) before) };
+
+        fn write(&self, out: &mut [u8]) -> Result<usize, Refusal> {
+            write_line(self.product, self.held, &PlainWords, self.number, out)
+        }
+    }
+
+    // The line of a refused product, written into memory.
+    #[derive(Clone, Copy)]
+    struct Refused {
+        fault: ReceiptFault,
+    }
+
+    impl Writing<Result<usize, Refusal>> for Refused {
+        ghost gives = { λ w before told after. (told ≡ put_answer (Ok (refusal_line w.fault)) before) × (after ≡ put_after (Ok (refusal_line w.fault)) before) };
+
+        fn write(&self, out: &mut [u8]) -> Result<usize, Refusal> {
+            write_refusal(self.fault, out)
+        }
+    }
+
     #[test]
     fn lines(rt: HostRuntime) -> Result<(), Fail> {
         let lines = [
@@ -158,9 +192,13 @@ mod tests {
         ];
         let product = winds()?;
         for (number, text) in &lines {
-            let write = |out: &mut [u8]| write_line(&product, &WINDS, &PlainWords, *number, out);
+            let line = Written {
+                product: &product,
+                held: &WINDS,
+                number: *number,
+            };
             let answers = (Ok(text.len()), Err(Refusal::NoRoom));
-            assert_eq!(rt; just_fits(text, write), Some(answers));
+            assert_eq!(rt; just_fits(text, &line), Some(answers));
         }
         let mut out = [35u8; 256];
         let past = write_line(&product, &WINDS, &PlainWords, 5, &mut out);
@@ -178,10 +216,7 @@ mod tests {
         };
         let text = "refused=3 block=3 at=38 rule=0 offset=0\n";
         let answers = (Ok(40), Err(Refusal::NoRoom));
-        assert_eq!(rt;
-            just_fits(text, |out| write_refusal(fault, out)),
-            Some(answers)
-        );
+        assert_eq!(rt; just_fits(text, &Refused { fault }), Some(answers));
         Ok(())
     }
 }

@@ -1,6 +1,9 @@
 // The two kinds of text, on tables of cases.
 #![tactic(auto)]
 
+ghost use Rattle.books.specs.Books.{Writes};
+ghost use Rattle.texts.specs.Texts.{text_kind, message};
+
 #[cfg(test)]
 mod tests {
     use books::faults::{FieldFault, Rule};
@@ -9,7 +12,7 @@ mod tests {
     use texts::characters::Characters;
     use texts::message::Message;
     use texts::routing::Routing;
-    use trial_tools::leaves;
+    use trial_tools::{Call, leaves};
 
     const MESSAGE: Characters<Message> = Characters { text: Message };
 
@@ -195,6 +198,20 @@ mod tests {
         assert_eq!(rt; ROUTING.number(&field[0..3], 0), None);
     }
 
+    // A list, written as a message into a place.
+    #[derive(Clone, Copy)]
+    struct Written<'a> {
+        list: &'a [i32],
+    }
+
+    impl<const N: usize> Call<[u8; N], Result<(), FieldFault>> for Written<'_> {
+        ghost gives = { λ w. Writes ((text_kind message).writing w.list.now) };
+
+        fn call(&self, place: &mut [u8; N]) -> Result<(), FieldFault> {
+            MESSAGE.write(self.list, place)
+        }
+    }
+
     #[test]
     fn write_fills_a_place_of_its_weight_alone(rt: HostRuntime) {
         let list = [65, 30, 127, 3];
@@ -204,30 +221,15 @@ mod tests {
         let early = Err(Rule::EarlyEnd.at(0));
         let end = Err(Rule::WrongEnd.at(1));
         let written = (Ok(()), [65, 30, 127, 3]);
+        assert_eq!(rt; leaves([9; 4], &Written { list: &list }), written);
+        assert_eq!(rt; leaves([9; 2], &Written { list: &list }), (short, [9; 2]));
+        assert_eq!(rt; leaves([9; 6], &Written { list: &list }), (long, [9; 6]));
+        assert_eq!(rt; leaves([9; 2], &Written { list: &[] }), (none, [9; 2]));
         assert_eq!(rt;
-            leaves([9; 4], |place| MESSAGE.write(&list, place)),
-            written
-        );
-        assert_eq!(rt;
-            leaves([9; 2], |place| MESSAGE.write(&list, place)),
-            (short, [9; 2])
-        );
-        assert_eq!(rt;
-            leaves([9; 6], |place| MESSAGE.write(&list, place)),
-            (long, [9; 6])
-        );
-        assert_eq!(rt;
-            leaves([9; 2], |place| MESSAGE.write(&[], place)),
-            (none, [9; 2])
-        );
-        assert_eq!(rt;
-            leaves([9; 2], |place| MESSAGE.write(&[3, 65], place)),
+            leaves([9; 2], &Written { list: &[3, 65] }),
             (early, [9; 2])
         );
-        assert_eq!(rt;
-            leaves([9; 4], |place| MESSAGE.write(&[65, 65], place)),
-            (end, [9; 4])
-        );
+        assert_eq!(rt; leaves([9; 4], &Written { list: &[65, 65] }), (end, [9; 4]));
         assert_eq!(rt; ROUTING.write(&[], &mut []), Ok(()));
     }
 }

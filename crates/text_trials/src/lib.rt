@@ -1,17 +1,34 @@
 // Lines as the programs print them, in memory just as long as the line and one byte short of it.
 #![tactic(auto)]
 
+ghost use Rattle.text.specs.Lines.{line_text, length_told, laid};
+ghost use Rattle.std.specs.Prelude.{◌≡◌};
+
 #[cfg(test)]
 mod tests {
     use std::process::Abort;
     use std::test::Fail;
     use text::lines::*;
-    use trial_tools::just_fits;
+    use trial_tools::{Writing, just_fits};
     use wire::classes::Class;
     use wire::modes::Modes;
 
+    // A line, written into memory.
+    #[derive(Clone, Copy)]
+    struct Written {
+        line: Line,
+    }
+
+    impl Writing<Option<usize>> for Written {
+        ghost gives = { λ w before told after. (told ≡ length_told (line_text w.line) before) × (after ≡ laid (line_text w.line) before) };
+
+        fn write(&self, memory: &mut [u8]) -> Option<usize> {
+            self.line.write(memory)
+        }
+    }
+
     fn check_line(rt: &impl Abort, line: Line, text: &str) {
-        let answers = just_fits(text, |memory| line.write(memory));
+        let answers = just_fits(text, &Written { line });
         assert_eq!(rt; answers, Some((Some(text.len()), None)));
     }
 

@@ -1,7 +1,4 @@
 -- What a writing answers and leaves, and words that stand for repetitions.
-use Prim.{Unit}
-use denote.Ref.{MutBor}
-use Rattle.std.specs.Fn.{Shared}
 use Rattle.std.specs.Prelude.{◌≡◌, ◌==◌, ℕ, Bool, ◌<◌, ◌+◌, ◌++◌, List, length, Ok}
 use Rattle.std.specs.List.{repeat, position_or_len, before_first, after_first}
 use Rattle.std.specs.Str.Parse.{digits_value, without_leading_plus}
@@ -22,11 +19,7 @@ abbrev pub Appends : List ℕ → List ℕ → List ℕ → Type 0
 Appends word before after = (n : ℕ) × (digits : List ℕ) × (piece : List ℕ)
     × Repeats word n digits × (decode_of digits ≡ Ok piece) × (after ≡ before ++ repeat n piece)
 
--- a call at a `&mut` to x may give r, and leave x' there
-abbrev pub Gives : {F T R : Type 0} → Shared F (MutBor T × Unit {0}) (R × (MutBor T × Unit {0})) → F → T → R → T → Type 0
-Gives {F} {T} g f x r x' = (shown : MutBor T) × (left : MutBor T) × (shown.now ≡ x) × g.post f (shown, tt) (r, (left, tt)) × (left.now ≡ x')
-
 -- a writing gives r and leaves the text in a memory just as long, and gives s and leaves a memory one byte shorter as it was
-abbrev pub JustFits : {F R : Type 0} → Shared F (MutBor (List ℕ) × Unit {0}) (R × (MutBor (List ℕ) × Unit {0})) → F → List ℕ → R → R → Type 0
-JustFits g f text r s = ((long : List ℕ) × (length long ≡ length text) × Gives g f long r text)
-    × ((short : List ℕ) × (length short + 1 ≡ length text) × Gives g f short s short)
+abbrev pub JustFits : {F R : Type 0} → (F → List ℕ → R → List ℕ → Type 0) → F → List ℕ → R → R → Type 0
+JustFits gives f text r s = ((long : List ℕ) × (length long ≡ length text) × gives f long r text)
+    × ((short : List ℕ) × (length short + 1 ≡ length text) × gives f short s short)

@@ -2,12 +2,11 @@
 // No handle of a test is taken: what is told here, a trial asserts.
 #![tactic(auto)]
 
-ghost use Rattle.trial_tools.specs.Trials.{Gives, JustFits, Repeats, Appends};
+ghost use Rattle.trial_tools.specs.Trials.{JustFits, Repeats, Appends};
 ghost use Rattle.judging.specs.Faults.{located};
 ghost use Rattle.judging.specs.declared.faults.Refusal.TheVariants.{NotHeld};
 ghost use Rattle.std.specs.List.{slice_set};
-ghost use Rattle.std.specs.Fn.{FnOnceReturnsAtMut};
-ghost use Rattle.std.specs.Prelude.{◌≡◌, ◌<◌, length, IfSome, IfOk, OnOk, OnErr, IsOk, ◌↔◌};
+ghost use Rattle.std.specs.Prelude.{◌≡◌, ◌<◌, ℕ, List, length, IfSome, IfOk, OnOk, OnErr, IsOk, ◌↔◌};
 
 use judging::faults::{BlockFault, Place, Refusal};
 use std::alloc::Global;
@@ -34,37 +33,50 @@ pub fn put_two<T: Copy>(
     Ok(())
 }
 
+// A trait, and no closure: what calls a closure must ask that it may be called, and no public function asks for anything.
+/// A call that is lent a value.
+pub trait Call<T, R> {
+    ghost gives: { Self → T → R → T → Type 0 };
+
+    /// What the call answers.
+    fn call(&self, lent: &mut T) -> R
+        ensures { gives self.now lent.old result lent.new };
+}
+
 /// What a call answers, and what it leaves of a value that is lent it.
-pub fn leaves<T: Copy, R, F: FnOnce(&mut T) -> R>(value: T, call: F) -> (R, T)
-    requires { F.IsAlwaysCallable call }
-    ensures { FnOnceReturnsAtMut F.FnOnce call value result.0 result.1 }
+pub fn leaves<T: Copy, R, C: Call<T, R>>(value: T, call: &C) -> (R, T)
+    ensures { C.gives call.now value result.0 result.1 }
 {
     let mut lent = value;
-    let answer = call(&mut lent);
+    let answer = call.call(&mut lent);
     (answer, lent)
+}
+
+// Apart from `Call`: a slice is no type that a parameter may stand for.
+/// A call that is lent memory.
+pub trait Writing<R> {
+    ghost gives: { Self → List ℕ → R → List ℕ → Type 0 };
+
+    /// What the call answers.
+    fn write(&self, memory: &mut [u8]) -> R
+        ensures { gives self.now memory.old result memory.new };
 }
 
 /// What stands in a memory before it is written.
 const MARK: u8 = 35;
 
 /// What a writing answers, if it leaves the memory so.
-fn answer_if<R: Drop, F: Fn(&mut [u8]) -> R>(
-    write: &F,
-    memory: &mut [u8],
-    after: &[u8],
-) -> Option<R>
-    requires { F.IsAlwaysCallable write.now }
-    ensures { IfSome result (λ told. Gives F.Fn write.now memory.old told after.now) }
+fn answer_if<R: Drop, W: Writing<R>>(writing: &W, memory: &mut [u8], after: &[u8]) -> Option<R>
+    ensures { IfSome result (λ told. W.gives writing.now memory.old told after.now) }
 {
-    let told = write(memory);
+    let told = writing.write(memory);
     if *memory == *after { Some(told) } else { None }
 }
 
 /// What a writing answers in memory just as long as the text, and in memory one byte short of it.
 /// None where the first does not hold the text then, or the second is not as it was; or if no byte or more than 255 are in the text.
-pub fn just_fits<R: Drop, F: Fn(&mut [u8]) -> R>(text: &str, write: F) -> Option<(R, R)>
-    requires { F.IsAlwaysCallable write }
-    ensures { IfSome result (λ told. JustFits F.Fn write text.now told.0 told.1) }
+pub fn just_fits<R: Drop, W: Writing<R>>(text: &str, writing: &W) -> Option<(R, R)>
+    ensures { IfSome result (λ told. JustFits W.gives writing.now text.now told.0 told.1) }
 {
     let size = text.len();
     if size == 0 || size > 255 {
@@ -73,8 +85,8 @@ pub fn just_fits<R: Drop, F: Fn(&mut [u8]) -> R>(text: &str, write: F) -> Option
     let marks = [MARK; 255];
     let mut long = marks;
     let mut short = marks;
-    let told = answer_if(&write, &mut long[..size], text.as_bytes())?;
-    let refused = answer_if(&write, &mut short[..size - 1], &marks[..size - 1])?;
+    let told = answer_if(writing, &mut long[..size], text.as_bytes())?;
+    let refused = answer_if(writing, &mut short[..size - 1], &marks[..size - 1])?;
     Some((told, refused))
 }
 

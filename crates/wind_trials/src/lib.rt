@@ -1,6 +1,9 @@
 // Plotted winds, and two's complement, on tables of cases.
 #![tactic(auto)]
 
+ghost use Rattle.books.specs.Books.{Writes};
+ghost use Rattle.winds.specs.Winds.{winds_meaning};
+
 #[cfg(test)]
 mod tests {
     use books::faults::{FieldFault, Rule};
@@ -8,7 +11,7 @@ mod tests {
     use cells::codes::{read_flags, write_flags, write_signed};
     use kinds::kind::Kind;
     use std::process::Abort;
-    use trial_tools::{leaves, put_two};
+    use trial_tools::{Call, leaves, put_two};
     use winds::kind::Winds;
 
     // The shaft length, the blanking byte, and two barbs at the ends of their ranges.
@@ -178,21 +181,50 @@ mod tests {
         }
     }
 
+    // A list, written into a place.
+    #[derive(Clone, Copy)]
+    struct Written<'a> {
+        list: &'a [i32],
+    }
+
+    impl<const N: usize> Call<[u8; N], Result<(), FieldFault>> for Written<'_> {
+        ghost gives = { λ w. Writes (winds_meaning.writing w.list.now) };
+
+        fn call(&self, place: &mut [u8; N]) -> Result<(), FieldFault> {
+            Winds.write(self.list, place)
+        }
+    }
+
     #[test]
     fn write_fills_a_place_of_its_weight_alone(rt: HostRuntime) {
         let short = Err(Rule::DataLength.at(12));
         let long = Err(Rule::DataLength.at(32));
         let range = Err(Rule::NumberRange.at(7));
-        let write = |changed: i32, place: &mut [u8]| {
+        let list = |changed: i32| {
             let mut list = LIST;
             list[7] = changed;
-            Winds.write(&list, place)
+            list
         };
-        assert_eq!(rt; leaves([9; 22], |place| write(0, place)), (Ok(()), FIELD));
-        assert_eq!(rt; leaves([9; 12], |place| write(0, place)), (short, [9; 12]));
-        assert_eq!(rt; leaves([9; 32], |place| write(0, place)), (long, [9; 32]));
-        assert_eq!(rt; leaves([9; 22], |place| write(2, place)), (range, [9; 22]));
-        assert_eq!(rt; leaves([9; 12], |place| write(-1, place)), (range, [9; 12]));
+        assert_eq!(rt;
+            leaves([9; 22], &Written { list: &list(0) }),
+            (Ok(()), FIELD)
+        );
+        assert_eq!(rt;
+            leaves([9; 12], &Written { list: &list(0) }),
+            (short, [9; 12])
+        );
+        assert_eq!(rt;
+            leaves([9; 32], &Written { list: &list(0) }),
+            (long, [9; 32])
+        );
+        assert_eq!(rt;
+            leaves([9; 22], &Written { list: &list(2) }),
+            (range, [9; 22])
+        );
+        assert_eq!(rt;
+            leaves([9; 12], &Written { list: &list(-1) }),
+            (range, [9; 12])
+        );
     }
 
     #[test]
