@@ -22,12 +22,9 @@ impl Element for u8 {
 impl Element for i32 {
     ghost reads = { number_character };
 
-    // A match: `u8::try_from` and a test of the byte after it take twice the instructions, for each number of a text.
+    // By the range: `u8::try_from` and a test of the byte after it take twice the instructions, for each number of a text.
     fn character(&self) -> Option<u8> {
-        match *self {
-            0..=127 => Some(*self as u8),
-            _ => None,
-        }
+        (0..=127).contains(self).then(|| *self as u8)
     }
 }
 
