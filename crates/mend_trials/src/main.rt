@@ -57,7 +57,7 @@ impl Case {
 }
 
 /// Adds the word that many times, each with a blank before it.
-// No `repetition` of `trial_tools`: a count that is no `u32` is refused, before it can fill memory.
+// No `repetition` of `trial_tools`: a count that is no `u32` is refused, before it can fill memory, and in the words of reading a `u32`.
 fn push_words(line: &mut String, times: &str, word: &str) -> anyhow::Result<()> {
     for _ in 0..times.parse::<u32>()? {
         line.push(' ')?;

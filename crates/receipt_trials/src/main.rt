@@ -4,35 +4,26 @@
 
 use anyhow::{Context, anyhow};
 use four_kinds::FourKinds;
+use hex::FromHex;
 use printing::{print_line, print_refusal};
 use products::closed::Closed;
 use std::alloc::Global;
 use trial_tools::repetition;
 
-fn hex_digit(digit: u8) -> anyhow::Result<u8> {
-    match digit {
-        b'0'..=b'9' => Ok(digit - b'0'),
-        b'a'..=b'f' => Ok(digit - b'a' + 10),
-        b'A'..=b'F' => Ok(digit - b'A' + 10),
-        _ => Err(anyhow!("not a hex digit")),
-    }
-}
-
 /// Adds the bytes of whole pairs of digits. A last digit alone is dropped.
-fn push_hex(memory: &mut Vec<u8>, hex: &str) -> anyhow::Result<()> {
-    for two in hex.as_bytes().chunks_exact(2) {
-        let high = hex_digit(two[0])?;
-        let low = hex_digit(two[1])?;
-        memory.push(high.wrapping_mul(16).wrapping_add(low))?;
+fn push_hex(memory: &mut Vec<u8>, digits: &str) -> anyhow::Result<()> {
+    for two in digits.as_bytes().chunks_exact(2) {
+        let [byte] = <[u8; 1]>::from_hex(two).map_err(|_| anyhow!("not a hex digit"))?;
+        memory.push(byte)?;
     }
     Ok(())
 }
 
 // No `push_part` of `trial_tools`: that refuses half a byte, reads digits that stand no times, and holds a repeated piece besides the memory.
 fn push_part(memory: &mut Vec<u8>, part: &str) -> anyhow::Result<()> {
-    let (times, hex) = repetition(part)?;
+    let (times, digits) = repetition(part)?;
     for _ in 0..times {
-        push_hex(memory, hex)?;
+        push_hex(memory, digits)?;
     }
     Ok(())
 }
