@@ -64,8 +64,9 @@ pub(crate) fn read_number(word: &str) -> Result<i32, ScriptFault> {
 }
 
 /// Bytes, each as two hex digits.
+// The digits first: `decode` asks for memory before it reads them, and a word of others is unreadable without any.
 pub(crate) fn read_hex(heap: Global, word: &str) -> Result<Vec<u8>, ScriptFault> {
-    if word.is_empty() {
+    if word.is_empty() || !word.bytes().all(|digit| digit.is_ascii_hexdigit()) {
         return Err(ScriptFault::Unreadable);
     }
     Ok(hex::decode(heap, word)?)
