@@ -12,7 +12,9 @@ use sinks::sending::put_all;
 use sinks::sink::Sink;
 
 /// Puts all pairs of a closed product into a sink, first to last, and tells their number.
+// A hint: where it stands apart from its caller, what a sink holds is behind a pointer, and each pair is put by itself.
 #[tactic(auto, unfolding(crate::specs::Sending::sending))]
+#[inline]
 pub fn send<B: Book, S: Sink>(
     product: &Closed,
     memory: &[u8],
