@@ -64,10 +64,16 @@ pub(crate) fn read_number(word: &str) -> Result<i32, ScriptFault> {
 }
 
 /// Bytes, each as two hex digits.
-// The digits first: `decode` asks for memory before it reads them, and a word of others is unreadable without any.
+// `decode` asks for memory before it reads a digit: where there is none, a word of other signs is unreadable all the same.
 pub(crate) fn read_hex(heap: Global, word: &str) -> Result<Vec<u8>, ScriptFault> {
-    if word.is_empty() || !word.bytes().all(|digit| digit.is_ascii_hexdigit()) {
+    if word.is_empty() {
         return Err(ScriptFault::Unreadable);
     }
-    Ok(hex::decode(heap, word)?)
+    hex::decode(heap, word).map_err(|error| {
+        if word.bytes().all(|digit| digit.is_ascii_hexdigit()) {
+            error.into()
+        } else {
+            ScriptFault::Unreadable
+        }
+    })
 }
