@@ -1,5 +1,9 @@
 // The words of a line: numbers in several bases, and bytes as hex digits.
-ghost use Rattle.std.specs.Prelude.{◌≤◌};
+ghost use Rattle.commands.specs.declared.faults.ScriptFault.TheVariants.{NoMemory};
+ghost use Rattle.hex.specs.Hex.{decode_of};
+ghost use Rattle.std.specs.Char.{is_ascii_hexdigit};
+ghost use Rattle.std.specs.List.{list_all};
+ghost use Rattle.std.specs.Prelude.{◌≡◌, ◌≤◌, true, Ok, IfOk, IfErr};
 
 use crate::faults::ScriptFault;
 use std::alloc::Global;
@@ -63,14 +67,24 @@ pub(crate) fn read_number(word: &str) -> Result<i32, ScriptFault> {
     word.parse().map_err(|_| ScriptFault::Unreadable)
 }
 
+/// Whether each sign of a word is a hex digit.
+fn is_hex(word: &str) -> bool
+    ensures { result ≡ list_all is_ascii_hexdigit word.now }
+{
+    word.bytes().all(|sign| sign.is_ascii_hexdigit())
+}
+
 /// Bytes, each as two hex digits.
 // `decode` asks for memory before it reads a digit: where there is none, a word of other signs is unreadable all the same.
-pub(crate) fn read_hex(heap: Global, word: &str) -> Result<Vec<u8>, ScriptFault> {
+pub(crate) fn read_hex(heap: Global, word: &str) -> Result<Vec<u8>, ScriptFault>
+    ensures ok { IfOk result (λ bytes. decode_of word.now ≡ Ok bytes.items) }
+    ensures err { IfErr result (λ fault. fault ≡ NoMemory → list_all is_ascii_hexdigit word.now ≡ true) }
+{
     if word.is_empty() {
         return Err(ScriptFault::Unreadable);
     }
     hex::decode(heap, word).map_err(|error| {
-        if word.bytes().all(|digit| digit.is_ascii_hexdigit()) {
+        if is_hex(word) {
             error.into()
         } else {
             ScriptFault::Unreadable
