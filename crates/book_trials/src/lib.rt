@@ -9,7 +9,7 @@ mod tests {
     use books::book::Book;
     use books::faults::{FieldFault, Rule};
     use books::plain::PlainWords;
-    use trial_tools::{Call, leaves, put_two};
+    use trial_tools::{Call, call_leaves, put_two};
     use wire::modes::Modes;
 
     // The plain-word book answers alike at every mode and submode.
@@ -110,18 +110,21 @@ mod tests {
         let range = Err(Rule::NumberRange.at(1));
         let list = |middle: i32| [258, middle, 65_535];
         let written = (Ok(()), [1, 2, 0, 3, 255, 255]);
-        assert_eq!(rt; leaves([9; 6], &Written { list: &list(3) }), written);
+        assert_eq!(rt; call_leaves([9; 6], &Written { list: &list(3) }), written);
         assert_eq!(rt;
-            leaves([9; 4], &Written { list: &list(3) }),
+            call_leaves([9; 4], &Written { list: &list(3) }),
             (short, [9; 4])
         );
-        assert_eq!(rt; leaves([9; 8], &Written { list: &list(3) }), (long, [9; 8]));
         assert_eq!(rt;
-            leaves([9; 6], &Written { list: &list(-1) }),
+            call_leaves([9; 8], &Written { list: &list(3) }),
+            (long, [9; 8])
+        );
+        assert_eq!(rt;
+            call_leaves([9; 6], &Written { list: &list(-1) }),
             (range, [9; 6])
         );
         assert_eq!(rt;
-            leaves(
+            call_leaves(
                 [9; 8],
                 &Written {
                     list: &list(65_536)

@@ -9,7 +9,7 @@ mod tests {
     use books::faults::{FieldFault, Rule};
     use kinds::kind::Kind;
     use labels::kind::Labels;
-    use trial_tools::{Call, leaves, put_two};
+    use trial_tools::{Call, call_leaves, put_two};
     use wire::modes::Modes;
 
     // One more than a length that is too long.
@@ -161,23 +161,23 @@ mod tests {
         let long = Err(Rule::DataLength.at(12));
         let range = Err(Rule::NumberRange.at(9));
         assert_eq!(rt;
-            leaves([9; 10], &Written { list: &list(127) }),
+            call_leaves([9; 10], &Written { list: &list(127) }),
             (Ok(()), [128, 0, 1, 2, 128, 127, 0b1011_1111, 65, 0, 127])
         );
         assert_eq!(rt;
-            leaves([9; 8], &Written { list: &list(127) }),
+            call_leaves([9; 8], &Written { list: &list(127) }),
             (short, [9; 8])
         );
         assert_eq!(rt;
-            leaves([9; 12], &Written { list: &list(127) }),
+            call_leaves([9; 12], &Written { list: &list(127) }),
             (long, [9; 12])
         );
         assert_eq!(rt;
-            leaves([9; 10], &Written { list: &list(128) }),
+            call_leaves([9; 10], &Written { list: &list(128) }),
             (range, [9; 10])
         );
         assert_eq!(rt;
-            leaves([9; 8], &Written { list: &list(-1) }),
+            call_leaves([9; 8], &Written { list: &list(-1) }),
             (range, [9; 8])
         );
     }

@@ -16,7 +16,7 @@ mod tests {
     use products::closed::Closed;
     use reading::facts::{Facts, Part, block_facts};
     use std::test::Fail;
-    use trial_tools::{Writing, just_fits, not_held};
+    use trial_tools::{Writing, not_held, writing_just_fits};
     use wire::blocks::Malformed;
     use wire::classes::Class;
     use wire::forms::Form;
@@ -198,7 +198,7 @@ mod tests {
                 number: *number,
             };
             let answers = (Ok(text.len()), Err(Refusal::NoRoom));
-            assert_eq!(rt; just_fits(text, &line), Some(answers));
+            assert_eq!(rt; writing_just_fits(text, &line), Some(answers));
         }
         let mut out = [35u8; 256];
         let past = write_line(&product, &WINDS, &PlainWords, 5, &mut out);
@@ -216,7 +216,7 @@ mod tests {
         };
         let text = "refused=3 block=3 at=38 rule=0 offset=0\n";
         let answers = (Ok(40), Err(Refusal::NoRoom));
-        assert_eq!(rt; just_fits(text, &Refused { fault }), Some(answers));
+        assert_eq!(rt; writing_just_fits(text, &Refused { fault }), Some(answers));
         Ok(())
     }
 }

@@ -12,7 +12,7 @@ mod tests {
     use texts::characters::Characters;
     use texts::message::Message;
     use texts::routing::Routing;
-    use trial_tools::{Call, leaves};
+    use trial_tools::{Call, call_leaves};
 
     const MESSAGE: Characters<Message> = Characters { text: Message };
 
@@ -221,15 +221,24 @@ mod tests {
         let early = Err(Rule::EarlyEnd.at(0));
         let end = Err(Rule::WrongEnd.at(1));
         let written = (Ok(()), [65, 30, 127, 3]);
-        assert_eq!(rt; leaves([9; 4], &Written { list: &list }), written);
-        assert_eq!(rt; leaves([9; 2], &Written { list: &list }), (short, [9; 2]));
-        assert_eq!(rt; leaves([9; 6], &Written { list: &list }), (long, [9; 6]));
-        assert_eq!(rt; leaves([9; 2], &Written { list: &[] }), (none, [9; 2]));
+        assert_eq!(rt; call_leaves([9; 4], &Written { list: &list }), written);
         assert_eq!(rt;
-            leaves([9; 2], &Written { list: &[3, 65] }),
+            call_leaves([9; 2], &Written { list: &list }),
+            (short, [9; 2])
+        );
+        assert_eq!(rt;
+            call_leaves([9; 6], &Written { list: &list }),
+            (long, [9; 6])
+        );
+        assert_eq!(rt; call_leaves([9; 2], &Written { list: &[] }), (none, [9; 2]));
+        assert_eq!(rt;
+            call_leaves([9; 2], &Written { list: &[3, 65] }),
             (early, [9; 2])
         );
-        assert_eq!(rt; leaves([9; 4], &Written { list: &[65, 65] }), (end, [9; 4]));
+        assert_eq!(rt;
+            call_leaves([9; 4], &Written { list: &[65, 65] }),
+            (end, [9; 4])
+        );
         assert_eq!(rt; ROUTING.write(&[], &mut []), Ok(()));
     }
 }

@@ -9,7 +9,7 @@ mod tests {
     use std::process::Abort;
     use std::test::Fail;
     use text::lines::*;
-    use trial_tools::{Writing, just_fits};
+    use trial_tools::{Writing, writing_just_fits};
     use wire::classes::Class;
     use wire::modes::Modes;
 
@@ -28,7 +28,7 @@ mod tests {
     }
 
     fn check_line(rt: &impl Abort, line: Line, text: &str) {
-        let answers = just_fits(text, &Written { line });
+        let answers = writing_just_fits(text, &Written { line });
         assert_eq!(rt; answers, Some((Some(text.len()), None)));
     }
 

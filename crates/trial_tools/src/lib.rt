@@ -2,10 +2,11 @@
 // No handle of a test is taken: what is told here, a trial asserts.
 #![tactic(auto)]
 
-ghost use Rattle.trial_tools.specs.Trials.{JustFits, Repeats, Appends};
+ghost use Rattle.trial_tools.specs.Trials.{Gives, JustFits, WritingJustFits, Repeats, Appends};
 ghost use Rattle.judging.specs.Faults.{located};
 ghost use Rattle.judging.specs.declared.faults.Refusal.TheVariants.{NotHeld};
 ghost use Rattle.std.specs.List.{slice_set};
+ghost use Rattle.std.specs.Fn.{FnOnceReturnsAtMut};
 ghost use Rattle.std.specs.Prelude.{◌≡◌, ◌<◌, ℕ, List, length, IfSome, IfOk, OnOk, OnErr, IsOk, ◌↔◌};
 
 use judging::faults::{BlockFault, Place, Refusal};
@@ -33,7 +34,18 @@ pub fn put_two<T: Copy>(
     Ok(())
 }
 
-// A trait, and no closure: what calls a closure must ask that it may be called, and no public function asks for anything.
+/// What a closure answers, and what it leaves of a value that is lent it.
+// It asks that the closure can always be called, as whatever calls one has to ask something; `call_leaves` asks for nothing.
+pub fn leaves<T: Copy, R, F: FnOnce(&mut T) -> R>(value: T, call: F) -> (R, T)
+    requires { F.IsAlwaysCallable call }
+    ensures { FnOnceReturnsAtMut F.FnOnce call value result.0 result.1 }
+{
+    let mut lent = value;
+    let answer = call(&mut lent);
+    (answer, lent)
+}
+
+// Its method asks for nothing, so what calls it has nothing to ask for either.
 /// A call that is lent a value.
 pub trait Call<T, R> {
     ghost gives: { Self → T → R → T → Type 0 };
@@ -44,7 +56,7 @@ pub trait Call<T, R> {
 }
 
 /// What a call answers, and what it leaves of a value that is lent it.
-pub fn leaves<T: Copy, R, C: Call<T, R>>(value: T, call: &C) -> (R, T)
+pub fn call_leaves<T: Copy, R, C: Call<T, R>>(value: T, call: &C) -> (R, T)
     ensures { C.gives call.now value result.0 result.1 }
 {
     let mut lent = value;
@@ -75,8 +87,8 @@ fn answer_if<R: Drop, W: Writing<R>>(writing: &W, memory: &mut [u8], after: &[u8
 
 /// What a writing answers in memory just as long as the text, and in memory one byte short of it.
 /// None where the first does not hold the text then, or the second is not as it was; or if no byte or more than 255 are in the text.
-pub fn just_fits<R: Drop, W: Writing<R>>(text: &str, writing: &W) -> Option<(R, R)>
-    ensures { IfSome result (λ told. JustFits W.gives writing.now text.now told.0 told.1) }
+pub fn writing_just_fits<R: Drop, W: Writing<R>>(text: &str, writing: &W) -> Option<(R, R)>
+    ensures { IfSome result (λ told. WritingJustFits W.gives writing.now text.now told.0 told.1) }
 {
     let size = text.len();
     if size == 0 || size > 255 {
@@ -87,6 +99,33 @@ pub fn just_fits<R: Drop, W: Writing<R>>(text: &str, writing: &W) -> Option<(R, 
     let mut short = marks;
     let told = answer_if(writing, &mut long[..size], text.as_bytes())?;
     let refused = answer_if(writing, &mut short[..size - 1], &marks[..size - 1])?;
+    Some((told, refused))
+}
+
+/// What a closure answers, if it leaves the memory so.
+fn told_if<R: Drop, F: Fn(&mut [u8]) -> R>(write: &F, memory: &mut [u8], after: &[u8]) -> Option<R>
+    requires { F.IsAlwaysCallable write.now }
+    ensures { IfSome result (λ told. Gives F.Fn write.now memory.old told after.now) }
+{
+    let told = write(memory);
+    (*memory == *after).then_some(told)
+}
+
+/// What a closure answers in memory just as long as the text, and in memory one byte short of it; None as for `writing_just_fits`.
+// By a body of its own: a type with the trait `Writing` that held any closure would have to say that it can be called, and no ghost field may cite a bound on `Fn`.
+pub fn just_fits<R: Drop, F: Fn(&mut [u8]) -> R>(text: &str, write: F) -> Option<(R, R)>
+    requires { F.IsAlwaysCallable write }
+    ensures { IfSome result (λ told. JustFits F.Fn write text.now told.0 told.1) }
+{
+    let size = text.len();
+    if size == 0 || size > 255 {
+        return None;
+    }
+    let marks = [MARK; 255];
+    let mut long = marks;
+    let mut short = marks;
+    let told = told_if(&write, &mut long[..size], text.as_bytes())?;
+    let refused = told_if(&write, &mut short[..size - 1], &marks[..size - 1])?;
     Some((told, refused))
 }
 
@@ -120,6 +159,44 @@ pub fn push_part(heap: Global, bytes: &mut Vec<u8>, part: &str) -> anyhow::Resul
 mod tests {
     use super::*;
     use std::test::Fail;
+
+    // Writes `ab`; into memory that is too short nothing, or zeros where it is careless.
+    fn write_two(memory: &mut [u8], careless: bool) -> bool {
+        let fits = memory.len() >= 2;
+        if fits {
+            memory[..2].copy_from_slice(b"ab");
+        } else if careless {
+            memory.fill(0);
+        }
+        fits
+    }
+
+    #[test]
+    fn a_closure_leaves_what_it_was_lent(rt: HostRuntime) {
+        let told = leaves(250_u8, |lent: &mut u8| {
+            let before = *lent;
+            *lent = 7;
+            before
+        });
+        assert_eq!(rt; told, (250, 7));
+    }
+
+    #[test]
+    fn a_closure_just_fits(rt: HostRuntime) {
+        let careful = |memory: &mut [u8]| write_two(memory, false);
+        let careless = |memory: &mut [u8]| write_two(memory, true);
+        let cases = [
+            ("ab", Some((true, false))),
+            ("ac", None),
+            ("abc", None),
+            ("a", None),
+            ("", None),
+        ];
+        for (text, want) in &cases {
+            assert_eq!(rt; just_fits(text, careful), *want);
+        }
+        assert_eq!(rt; just_fits("ab", careless), None);
+    }
 
     #[test]
     fn parts_are_repeated(rt: HostRuntime) -> Result<(), Fail> {

@@ -11,7 +11,7 @@ mod tests {
     use cells::codes::{read_flags, write_flags, write_signed};
     use kinds::kind::Kind;
     use std::process::Abort;
-    use trial_tools::{Call, leaves, put_two};
+    use trial_tools::{Call, call_leaves, put_two};
     use winds::kind::Winds;
 
     // The shaft length, the blanking byte, and two barbs at the ends of their ranges.
@@ -206,23 +206,23 @@ mod tests {
             list
         };
         assert_eq!(rt;
-            leaves([9; 22], &Written { list: &list(0) }),
+            call_leaves([9; 22], &Written { list: &list(0) }),
             (Ok(()), FIELD)
         );
         assert_eq!(rt;
-            leaves([9; 12], &Written { list: &list(0) }),
+            call_leaves([9; 12], &Written { list: &list(0) }),
             (short, [9; 12])
         );
         assert_eq!(rt;
-            leaves([9; 32], &Written { list: &list(0) }),
+            call_leaves([9; 32], &Written { list: &list(0) }),
             (long, [9; 32])
         );
         assert_eq!(rt;
-            leaves([9; 22], &Written { list: &list(2) }),
+            call_leaves([9; 22], &Written { list: &list(2) }),
             (range, [9; 22])
         );
         assert_eq!(rt;
-            leaves([9; 12], &Written { list: &list(-1) }),
+            call_leaves([9; 12], &Written { list: &list(-1) }),
             (range, [9; 12])
         );
     }
