@@ -31,6 +31,6 @@ WritingJustFits gives f text r s = ((long : List ℕ) × (length long ≡ length
 abbrev pub Gives : {F T R : Type 0} → Shared F (MutBor T × Unit {0}) (R × (MutBor T × Unit {0})) → F → T → R → T → Type 0
 Gives {F} {T} g f x r x' = (shown : MutBor T) × (left : MutBor T) × (shown.now ≡ x) × g.post f (shown, tt) (r, (left, tt)) × (left.now ≡ x')
 
--- the same of a closure
+-- `WritingJustFits` of a closure: by what it may give at a `&mut`
 abbrev pub JustFits : {F R : Type 0} → Shared F (MutBor (List ℕ) × Unit {0}) (R × (MutBor (List ℕ) × Unit {0})) → F → List ℕ → R → R → Type 0
 JustFits g = WritingJustFits (Gives g)

@@ -35,7 +35,7 @@ pub fn put_two<T: Copy>(
 }
 
 /// What a closure answers, and what it leaves of a value that is lent it.
-// It asks that the closure can always be called, as whatever calls one has to ask something; `call_leaves` asks for nothing.
+// What calls a closure has to ask that it can be called; `call_leaves`, of a value with a trait, asks for nothing.
 pub fn leaves<T: Copy, R, F: FnOnce(&mut T) -> R>(value: T, call: F) -> (R, T)
     requires { F.IsAlwaysCallable call }
     ensures { FnOnceReturnsAtMut F.FnOnce call value result.0 result.1 }
